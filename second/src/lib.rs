@@ -1,0 +1,10 @@
+//! An independent second reader of Quake DEM recordings.
+//!
+//! Written from document 01 and the source documents alone, so that it can be
+//! wrong in other places than the definitions it is run beside.
+
+pub mod message;
+pub mod read;
+pub mod scene;
+pub mod text;
+pub mod write;

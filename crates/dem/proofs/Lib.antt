@@ -1,0 +1,16 @@
+pub mod ResultLaws
+pub mod ByteLaws
+pub mod LayoutLaws
+pub mod CodecLaws
+pub mod MaskedLaws
+pub mod UpdateLaws
+pub mod MessageLaws
+pub mod TrackLaws
+pub mod BlockLaws
+pub mod ListLaws
+pub mod RecordingLaws
+pub mod AtLaws
+pub mod FreeLaws
+pub mod AnswerLaws
+pub mod RangeLaws
+pub mod SceneLaws

@@ -1,0 +1,13 @@
+pub mod Limits
+pub mod Refusal
+pub mod Bytes
+pub mod Layout
+pub mod Masked
+pub mod Codec
+pub mod Track
+pub mod Scene
+pub mod Kind
+pub mod Message
+pub mod Recording
+pub mod WellFormed
+pub mod Answer

@@ -1,16 +1,35 @@
 //! The commands of the second reader; see README.md.
 
-use second::{read, text, write};
+use second::compare::{self, Mode, Options};
+use second::{bench, fast, gen, mix, read, text};
 use std::io::{Read, Write};
+use std::path::{Path, PathBuf};
 use std::process::ExitCode;
+
+const USAGE: &str = "usage:
+  second normal < RECORDING         the normal form
+  second scene < RECORDING          the scene as text
+  second messages < RECORDING       a line a message
+  second generate SEED INDEX        the INDEX-th generated input of a seed
+  second mix NAME SIZE_MB           a big made recording
+  second bench [FILE...]            times reading and normalising
+  second compare [--mode normal|scene] [--count N] [--first I] [--seed S]
+                 [--keep DIR] [--pipe] [--no-recordings] PROGRAM [ARGS..]";
+
+type Outcome = Result<ExitCode, Box<dyn std::error::Error>>;
 
 fn main() -> ExitCode {
     let args: Vec<String> = std::env::args().skip(1).collect();
-    let result = match args.first().map(String::as_str) {
-        Some("normal") => normal(),
-        Some("scene") => scene(),
-        Some("messages") => messages(),
-        _ => Err("usage: second normal|scene|messages".into()),
+    let words: Vec<&str> = args.iter().map(String::as_str).collect();
+    let result = match words[..] {
+        ["normal"] => normal(),
+        ["scene"] => scene(),
+        ["messages"] => messages(),
+        ["generate", seed, index] => generate(seed, index),
+        ["mix", name, size] => make_mix(name, size),
+        ["bench", ref files @ ..] => time_all(files),
+        ["compare", ref rest @ ..] => run_compare(rest),
+        _ => Err(USAGE.into()),
     };
     result.unwrap_or_else(|error| {
         eprintln!("second: {error}");
@@ -18,24 +37,27 @@ fn main() -> ExitCode {
     })
 }
 
-type Outcome = Result<ExitCode, Box<dyn std::error::Error>>;
-
+/// All of standard input, in large reads.
 fn input() -> std::io::Result<Vec<u8>> {
-    let mut bytes = Vec::new();
+    let mut bytes = Vec::with_capacity(1 << 20);
     std::io::stdin().lock().read_to_end(&mut bytes)?;
     Ok(bytes)
 }
 
-fn output(bytes: &[u8]) -> std::io::Result<()> {
-    std::io::stdout().lock().write_all(bytes)
+fn output(bytes: &[u8]) -> Outcome {
+    let mut out = std::io::stdout().lock();
+    out.write_all(bytes)?;
+    out.flush()?;
+    Ok(ExitCode::SUCCESS)
 }
 
 fn normal() -> Outcome {
-    let (out, refusal) = write::normal(&input()?);
+    let mut out = Vec::new();
+    let answer = fast::normal(&input()?, &mut out);
     output(&out)?;
-    Ok(match refusal {
-        None => ExitCode::SUCCESS,
-        Some(refusal) => {
+    Ok(match answer {
+        Ok(_) => ExitCode::SUCCESS,
+        Err(refusal) => {
             eprintln!("{refusal}");
             ExitCode::FAILURE
         }
@@ -43,13 +65,89 @@ fn normal() -> Outcome {
 }
 
 fn scene() -> Outcome {
-    let attempt = read::read_recording(&input()?);
-    output(text::scene_text(&attempt).as_bytes())?;
-    Ok(ExitCode::SUCCESS)
+    output(text::scene_text(&read::read_recording(&input()?)).as_bytes())
 }
 
 fn messages() -> Outcome {
-    let attempt = read::read_recording(&input()?);
-    output(text::messages_text(&attempt).as_bytes())?;
+    output(text::messages_text(&read::read_recording(&input()?)).as_bytes())
+}
+
+fn generate(seed: &str, index: &str) -> Outcome {
+    let input = gen::generate(seed.parse()?, index.parse()?);
+    output(&input.bytes)
+}
+
+fn make_mix(name: &str, size: &str) -> Outcome {
+    let megabytes: f64 = size.parse()?;
+    let made = mix::make(name, (megabytes * 1e6) as usize);
+    output(&made.ok_or_else(|| format!("no mix {name}; there are {}", mix::NAMES.join(", ")))?)
+}
+
+/// Without files, the made recordings and the real ones beside the repository.
+fn time_all(files: &[&str]) -> Outcome {
+    println!("{}", bench::heading());
+    let mut paths: Vec<PathBuf> = files.iter().map(PathBuf::from).collect();
+    if files.is_empty() {
+        for name in mix::NAMES {
+            let bytes = mix::make(name, 16_000_000).expect("the name is one of the list");
+            println!("{}", bench::line(name, bytes.len(), &bench::time(&bytes)?));
+        }
+        paths = compare::recordings_in(&compare::recordings_folder());
+    }
+    for path in paths {
+        let bytes = std::fs::read(&path)?;
+        let name = path.file_name().unwrap_or_default().to_string_lossy().into_owned();
+        println!("{}", bench::line(&name, bytes.len(), &bench::time(&bytes)?));
+    }
     Ok(ExitCode::SUCCESS)
+}
+
+fn run_compare(args: &[&str]) -> Outcome {
+    let options = compare_options(args)?;
+    let inputs = options.count + options.recordings.len();
+    let start = std::time::Instant::now();
+    let differences = compare::compare(&options)?;
+    let seconds = start.elapsed().as_secs_f32();
+    println!("{inputs} inputs, {differences} differences, {seconds:.1} s");
+    Ok(if differences == 0 { ExitCode::SUCCESS } else { ExitCode::FAILURE })
+}
+
+fn compare_options(args: &[&str]) -> Result<Options, Box<dyn std::error::Error>> {
+    let mut options = Options {
+        mode: Mode::Normal,
+        seed: 1,
+        first: 0,
+        count: gen::boundary_count() + 2000,
+        keep: Path::new(env!("CARGO_MANIFEST_DIR")).join("target/differences"),
+        recordings: compare::recordings_in(&compare::recordings_folder()),
+        pipe: false,
+        program: Vec::new(),
+    };
+    let mut args = args.iter().copied();
+    while let Some(arg) = args.next() {
+        let mut value = || args.next().ok_or(format!("{arg} needs a value"));
+        match arg {
+            "--mode" => {
+                options.mode = match value()? {
+                    "normal" => Mode::Normal,
+                    "scene" => Mode::Scene,
+                    other => return Err(format!("no mode {other}").into()),
+                }
+            }
+            "--seed" => options.seed = value()?.parse()?,
+            "--first" => options.first = value()?.parse()?,
+            "--count" => options.count = value()?.parse()?,
+            "--keep" => options.keep = value()?.into(),
+            "--pipe" => options.pipe = true,
+            "--no-recordings" => options.recordings.clear(),
+            program => {
+                options.program.push(program.into());
+                options.program.extend(args.by_ref().map(String::from));
+            }
+        }
+    }
+    if options.program.is_empty() {
+        return Err(USAGE.into());
+    }
+    Ok(options)
 }

@@ -142,9 +142,7 @@ impl Scene {
                 self.players[*player as usize].colours = *colours
             }
             Message::Static(_) => self.statics += 1,
-            Message::Baseline { entity, baseline } => {
-                self.baselines[*entity as usize] = *baseline
-            }
+            Message::Baseline { entity, baseline } => self.baselines[*entity as usize] = *baseline,
             Message::Pause { pause } => self.pause = *pause,
             Message::Killed => self.count(STAT_KILLS),
             Message::Secret => self.count(STAT_SECRETS),

@@ -67,12 +67,9 @@ pub fn write_block(out: &mut Vec<u8>, angles: [u32; 3], body: &[u8]) {
 
 /// The normal form of a filled-in message in the scene it was filled in.
 pub fn normal_message(scene: &Scene, filled: &FilledIn) -> Vec<u8> {
-    encode(&with_masks(
-        filled,
-        least_sound_mask,
-        least_client_mask,
-        |update| least_update_mask(scene, update),
-    ))
+    encode(&with_masks(filled, least_sound_mask, least_client_mask, |update| {
+        least_update_mask(scene, update)
+    }))
 }
 
 /// A filled-in message sent with the masks that the three functions choose.
@@ -161,9 +158,7 @@ pub fn encode(message: &Encodable) -> Vec<u8> {
         Message::Particle(particle) => out.particle(particle),
         Message::Damage { save, take, origin } => out.b(19).b(*save).b(*take).v(origin),
         Message::Static(baseline) => out.b(20).baseline(baseline),
-        Message::Baseline { entity, baseline } => {
-            out.b(22).s(*entity as i16).baseline(baseline)
-        }
+        Message::Baseline { entity, baseline } => out.b(22).s(*entity as i16).baseline(baseline),
         Message::Temporary(temporary) => out.b(23).temporary(temporary),
         Message::Pause { pause } => out.b(24).b(*pause),
         Message::Signon { signon } => out.b(25).b(*signon),

@@ -87,14 +87,8 @@ fn p8_strings() {
 fn p9_sound() {
     let bytes = hex("06 03 FF 40 29 00 07 00 00 00 00 00 00");
     let last = read_from(&Scene::start(), &bytes);
-    let sound = Sound {
-        volume: 255,
-        attenuation: 64,
-        channel: 1,
-        entity: 5,
-        sound: 7,
-        origin: [0, 0, 0],
-    };
+    let sound =
+        Sound { volume: 255, attenuation: 64, channel: 1, entity: 5, sound: 7, origin: [0, 0, 0] };
     assert_eq!(last.filled(), &Message::Sound(sound));
     assert_eq!(last.normal(), hex("06 00 29 00 07 00 00 00 00 00 00"));
 }

@@ -53,14 +53,7 @@ impl<O: Output> Pass<'_, O> {
         Ok(next)
     }
 
-    fn rewrite_client(
-        &mut self,
-        block: usize,
-        at: usize,
-        next: usize,
-        client: &Client,
-        mask: u16,
-    ) {
+    fn rewrite_client(&mut self, block: usize, at: usize, next: usize, client: &Client, mask: u16) {
         let mut out = [0; LONGEST];
         out[0] = 15;
         out[1..3].copy_from_slice(&mask.to_le_bytes());
@@ -79,7 +72,8 @@ impl<O: Output> Pass<'_, O> {
         let [health_low, health_high, ammo, a, b, c, d, weapon] = client.last;
         let stats = &mut self.scene.stats;
         stats[0] = i16::from_le_bytes([health_low, health_high]).into();
-        for (stat, byte) in [model, ammo, armour, frame, a, b, c, d, weapon].into_iter().enumerate() {
+        for (stat, byte) in [model, ammo, armour, frame, a, b, c, d, weapon].into_iter().enumerate()
+        {
             stats[2 + stat] = byte.into();
         }
         self.scene.client = client;

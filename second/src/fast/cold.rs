@@ -97,9 +97,9 @@ fn ask<'a>(bytes: &'a [u8], field: &Ask, scene: &FastScene) -> Result<&'a [u8], 
         }
         Ask::Text => text(bytes),
         Ask::Names => names(bytes),
-        Ask::Time => rule(bytes, TIME, |four| {
-            (scene.time..TIME_END).contains(&u32::from_le_bytes(four))
-        }),
+        Ask::Time => {
+            rule(bytes, TIME, |four| (scene.time..TIME_END).contains(&u32::from_le_bytes(four)))
+        }
         Ask::Static if scene.statics >= 128 => Err(RANGE),
         Ask::Static => Ok(bytes),
     }

@@ -193,8 +193,7 @@ impl Cases {
 
     fn strings(&mut self) {
         let before = server_info(16);
-        let heads: [&[u8]; 8] =
-            [&[8], &[9], &[26], &[31], &[34], &[12, 0], &[12, 63], &[13, 15]];
+        let heads: [&[u8]; 8] = [&[8], &[9], &[26], &[31], &[34], &[12, 0], &[12, 63], &[13, 15]];
         for head in heads {
             let name = |what: &str| format!("message {head:?}, {what}");
             let with = |rest: &[u8]| [head, rest].concat();
@@ -325,7 +324,12 @@ impl Cases {
                     self.bad(name, &[1], &message, 9);
                 }
             }
-            self.bad(format!("message {head:?}, half an entity"), &[1], &[head, &[0xC1]].concat(), 5);
+            self.bad(
+                format!("message {head:?}, half an entity"),
+                &[1],
+                &[head, &[0xC1]].concat(),
+                5,
+            );
         }
         for (head, rest) in [(&[6, 0][..], 7), (&[16], 0)] {
             for word in [0, 7, 448 << 3, 448 << 3 | 7, 449 << 3, 0x7FFF, 0x8000, 0xFFFFu16] {
@@ -407,8 +411,15 @@ impl Cases {
                 self.bad(format!("time {bits:x}, 0"), &time(bits), &time(0), 10);
             }
         }
-        let never =
-            [0x8000_0000, 0x8000_0001, 0xBF80_0000, 0x7F80_0000, 0x7F80_0001, 0x7FC0_0000, u32::MAX];
+        let never = [
+            0x8000_0000,
+            0x8000_0001,
+            0xBF80_0000,
+            0x7F80_0000,
+            0x7F80_0001,
+            0x7FC0_0000,
+            u32::MAX,
+        ];
         for bits in never {
             self.bad(format!("first time {bits:x}"), &[1], &time(bits), 10);
             self.bad(format!("time {bits:x} after one"), &time(ONE), &time(bits), 10);
@@ -560,9 +571,8 @@ fn same_as_baseline(mask: u16) -> Vec<u8> {
 /// The whole recording of document 01's marked cases.
 pub fn marked_recording() -> Vec<u8> {
     let mut out = b"-1\n".to_vec();
-    let body = [
-        7, 0, 0, 0x80, 0x3F, 22, 5, 0, 3, 0, 0, 0, 0, 2, 0, 0, 0, 0, 0xC0, 0, 0, 0xC2, 5, 0, 8, 2,
-    ];
+    let body =
+        [7, 0, 0, 0x80, 0x3F, 22, 5, 0, 3, 0, 0, 0, 0, 2, 0, 0, 0, 0, 0xC0, 0, 0, 0xC2, 5, 0, 8, 2];
     write_block(&mut out, [0; 3], &body);
     write_block(&mut out, [0; 3], &[2]);
     out

@@ -296,12 +296,9 @@ fn baseline(rng: &mut Rng) -> Baseline {
 
 fn temporary(rng: &mut Rng) -> Temporary {
     match rng.below(12) as u8 {
-        kind @ (5 | 6 | 9) => Temporary::Line {
-            kind,
-            entity: entity(rng),
-            start: shorts(rng),
-            end: shorts(rng),
-        },
+        kind @ (5 | 6 | 9) => {
+            Temporary::Line { kind, entity: entity(rng), start: shorts(rng), end: shorts(rng) }
+        }
         kind => Temporary::Point { kind, origin: shorts(rng) },
     }
 }

@@ -27,7 +27,7 @@ struct Mix {
 }
 
 fn mix_of(name: &str) -> Option<Mix> {
-    let usual = Mix { updates: 21, events: 90, strings: 12, lengths: (5, 40) };
+    let usual = Mix { updates: 23, events: 90, strings: 12, lengths: (5, 40) };
     Some(match name {
         "typical" => usual,
         "tiny" => Mix { updates: 4, events: 30, ..usual },

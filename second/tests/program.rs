@@ -1,0 +1,146 @@
+//! The program itself: its commands, and that `compare` finds differences.
+
+mod common;
+
+use second::gen::boundary::marked_recording;
+use std::io::Write;
+use std::path::{Path, PathBuf};
+use std::process::{Command, Output, Stdio};
+
+const SECOND: &str = env!("CARGO_BIN_EXE_second");
+
+fn run(args: &[&str], input: &[u8]) -> Output {
+    let mut child = Command::new(SECOND)
+        .args(args)
+        .stdin(Stdio::piped())
+        .stdout(Stdio::piped())
+        .stderr(Stdio::piped())
+        .spawn()
+        .unwrap();
+    // The program may have answered before it was fed.
+    let _ = child.stdin.take().unwrap().write_all(input);
+    child.wait_with_output().unwrap()
+}
+
+fn stdout(output: &Output) -> String {
+    String::from_utf8(output.stdout.clone()).unwrap()
+}
+
+#[test]
+fn normal_of_the_marked_recording() {
+    let output = run(&["normal"], &marked_recording());
+    assert_eq!(output.stdout.len(), 61);
+    assert_eq!(output.stdout[3], 0x19);
+    assert!(output.stderr.is_empty() && output.status.success());
+}
+
+#[test]
+fn normal_of_a_refused_recording() {
+    let mut bytes = marked_recording();
+    bytes[19] = 0x15;
+    let output = run(&["normal"], &bytes);
+    assert_eq!(output.stderr, b"refused 6 at 19\n");
+    assert_eq!(output.stdout, b"-1\n");
+    assert!(!output.status.success());
+    let empty = run(&["normal"], b"");
+    assert_eq!((&empty.stdout[..], &empty.stderr[..]), (&b""[..], &b"refused 1 at 0\n"[..]));
+}
+
+#[test]
+fn scene_and_messages_of_the_marked_recording() {
+    let scene = stdout(&run(&["scene"], &marked_recording()));
+    assert!(scene.starts_with("accepted\ntrack -1\nblocks 2\nmessages 4\nended 1\n"));
+    assert!(scene.ends_with("x=520 angle0=0 y=0 angle1=0 z=192 angle2=0 bit5=0\n"));
+    let messages = stdout(&run(&["messages"], &marked_recording()));
+    let lines: Vec<&str> = messages.lines().collect();
+    assert_eq!(lines.len(), 7);
+    assert_eq!(lines[0], "track -1");
+    assert_eq!(lines[1], "block 3 angles 00000000 00000000 00000000");
+    assert_eq!(lines[2], "19 7 time=3f800000 | time=3f800000");
+    assert_eq!(
+        lines[4],
+        "40 194 mask=0042 entity=5 model=0 frame=0 colormap=0 skin=0 effects=0 x=520 angle0=0 \
+         y=0 angle1=0 z=0 angle2=0 bit5=0 | entity=5 model=3 frame=0 colormap=0 skin=0 effects=0 \
+         x=520 angle0=0 y=0 angle1=0 z=192 angle2=0 bit5=0"
+    );
+    assert_eq!(lines[6], "61 2 |");
+}
+
+#[test]
+fn refused_scene_is_one_line_on_standard_output() {
+    let output = run(&["scene"], b"x");
+    assert_eq!((&output.stdout[..], &output.stderr[..]), (&b"refused 1 at 0\n"[..], &b""[..]));
+}
+
+#[test]
+fn generate_is_the_same_always() {
+    for index in ["5", "4000"] {
+        let first = run(&["generate", "7", index], b"");
+        assert!(!first.stdout.is_empty());
+        assert_eq!(first.stdout, run(&["generate", "7", index], b"").stdout);
+        let expected = second::gen::generate(7, index.parse().unwrap()).bytes;
+        assert_eq!(first.stdout, expected);
+    }
+    let (a, b) = (run(&["generate", "7", "4001"], b""), run(&["generate", "8", "4001"], b""));
+    assert_ne!(a.stdout, b.stdout);
+}
+
+#[test]
+fn mix_is_accepted_and_has_the_size_asked_for() {
+    let made = run(&["mix", "typical", "0.5"], b"").stdout;
+    assert!((500_000..510_000).contains(&made.len()));
+    assert!(run(&["normal"], &made).status.success());
+    assert!(!run(&["mix", "no such", "1"], b"").status.success());
+}
+
+fn keep_folder(name: &str) -> PathBuf {
+    let folder = Path::new(env!("CARGO_TARGET_TMPDIR")).join(name);
+    let _ = std::fs::remove_dir_all(&folder);
+    folder
+}
+
+fn compare(args: &[&str], keep: &Path) -> Output {
+    let keep = keep.to_str().unwrap();
+    run(&[&["compare", "--no-recordings", "--keep", keep], args].concat(), b"")
+}
+
+#[test]
+fn compare_agrees_with_itself() {
+    let keep = keep_folder("agrees");
+    let modes: [&[&str]; 3] = [
+        &["--count", "60", "--first", "2700", SECOND, "normal"],
+        &["--pipe", "--count", "60", "--first", "2700", SECOND, "normal"],
+        &["--mode", "scene", "--count", "60", "--first", "2700", SECOND, "scene"],
+    ];
+    for args in modes {
+        let output = compare(args, &keep);
+        assert!(output.status.success(), "{}", stdout(&output));
+        assert!(stdout(&output).starts_with("60 inputs, 0 differences"));
+    }
+    assert!(!keep.exists());
+}
+
+/// A program that copies is found out, and what it was wrong on is kept.
+#[test]
+fn compare_finds_a_program_that_copies() {
+    let keep = keep_folder("copies");
+    let output = compare(&["--count", "12", "cat"], &keep);
+    assert_eq!(output.status.code(), Some(1));
+    // Of the first twelve track lines these are not normal: -0, 00, -000, 007,
+    // 010; and the empty input is refused.
+    assert!(stdout(&output).contains("12 inputs, 6 differences"), "{}", stdout(&output));
+    let kept: Vec<_> = std::fs::read_dir(&keep).unwrap().flatten().collect();
+    assert_eq!(kept.len(), 6);
+    let bytes: Vec<Vec<u8>> = kept.iter().map(|f| std::fs::read(f.path()).unwrap()).collect();
+    assert!(bytes.contains(&b"-0\n".to_vec()) && bytes.contains(&Vec::new()));
+}
+
+/// The right output with nothing on standard error is found out too.
+#[test]
+fn compare_looks_at_standard_error() {
+    let keep = keep_folder("quiet");
+    let quiet = format!("{SECOND} normal 2>&-");
+    let output = compare(&["--count", "12", "sh", "-c", &quiet], &keep);
+    assert!(stdout(&output).contains("12 inputs, 1 differences"), "{}", stdout(&output));
+    assert!(stdout(&output).contains("expected \"refused 1 at 0\\n\""), "{}", stdout(&output));
+}

@@ -2,12 +2,13 @@
 use mathlib.Core.List.{List, []}
 use mathlib.Core.Bool.{Bool, cond}
 use Prim.Native.Nat.{ℕ}
-use lib.ListN.{drop}
+use lib.ListN.{take, drop}
 use lib.Dec.{eqb}
 use Rattle.dem.specs.Limits.{stringLimit}
 use Rattle.dem.specs.Bytes.{Result, found, refused, refusedAt, readNumber, readString}
 use Rattle.dem.specs.Layout.{Value, Layout, parse}
 use Rattle.wire.specs.declared.Cursor.{Cursor}
+use Rattle.wire.specs.declared.Text.{Text}
 
 -- What was read up to a cursor: a value, and the bytes from the cursor on; or the refusal that it keeps. The bytes of a refusal are
 -- left to the message.
@@ -26,6 +27,10 @@ stringAt s c rule = readAt s c (readString stringLimit rule)
 
 unfoldable pub parseAt : List ℕ → Cursor → Layout → Result (List Value)
 parseAt s c l = readAt s c (parse l)
+
+-- The bytes at a place.
+abbrev pub textIn : List ℕ → Text → List ℕ
+textIn s t = take (t .len) (drop (t .start) s)
 
 -- The cursor, refused where a rule is broken and nothing was refused before.
 unfoldable pub ruled : Cursor → Bool → ℕ → Cursor

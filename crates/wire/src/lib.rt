@@ -16,6 +16,17 @@ pub struct Cursor {
     pub refusal: u8,
 }
 
+// A string's place in the bytes, without its closing zero.
+pub struct Text {
+    pub start: usize,
+    pub len: usize,
+}
+
+pub struct TextAt {
+    pub text: Text,
+    pub cursor: Cursor,
+}
+
 pub struct Number {
     pub value: u32,
     pub cursor: Cursor,

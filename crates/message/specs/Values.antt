@@ -62,11 +62,11 @@ serverinfoValues t s =
 
 abbrev pub motionValues : Motion → List Value
 motionValues m =
-    char (m .view-height) ∷ char (m .pitch) ∷ char (m .punch0) ∷ char (m .velocity0) ∷ char (m .punch1) ∷ char (m .velocity1)
+    char (m .«view_height») ∷ char (m .pitch) ∷ char (m .punch0) ∷ char (m .velocity0) ∷ char (m .punch1) ∷ char (m .velocity1)
     ∷ char (m .punch2) ∷ char (m .velocity2) ∷ []
 
 abbrev pub armsValues : Arms → List Value
-armsValues a = number (a .weapon-frame) ∷ number (a .armour) ∷ number (a .weapon-model) ∷ []
+armsValues a = number (a .«weapon_frame») ∷ number (a .armour) ∷ number (a .«weapon_model») ∷ []
 
 abbrev pub suppliesValues : Supplies → List Value
 suppliesValues s =

@@ -2,16 +2,16 @@
 -- `reads-field`, `reads-split` and `reads-string` follow its shape.
 -- Assumes nothing.
 use mathlib.Core.Path.{_≡_, refl, sym, ap, ap₂, _∙_}
-use mathlib.Core.List.{List, [], _∷_}
+use mathlib.Core.List.{List, [], _∷_, _++_}
 use mathlib.Core.Bool.{Bool, true, false, cond, not}
-use Prim.Native.Nat.{ℕ, zero, suc, _+_, _/_, _%_, _^_, _<_, _≤_}
+use Prim.Native.Nat.{ℕ, zero, suc, _+_, _/_, _%_, _^_, _<_, _≤_, zero-le}
 use native.Mathlib.Omega.{arith}
-use borrow.Author.Tests.{eq-eqb, ne-eqb, lt-leb}
+use borrow.Author.Tests.{eq-eqb, ne-eqb, lt-leb, le-leb}
 use lib.Dec.{leb, eqb}
 use lib.ListN.{length, take, drop, length-drop}
 use Rattle.dem.specs.Limits.{stringLimit}
 use Rattle.dem.specs.Refusal.{Refusal, code, cutMessage}
-use Rattle.dem.specs.Bytes.{Result, found, refused, bind, refusedAt, unless, require, free, leRead, readNumber, readString}
+use Rattle.dem.specs.Bytes.{Result, found, refused, mapResult, bind, refusedAt, unless, require, free, leRead, readNumber, readString, isSet}
 use Rattle.dem.specs.Layout.{Value, number, text, Layout, done, field, split, string, put, parse}
 use Rattle.dem.proofs.ResultLaws.{clash}
 use Rattle.dem.proofs.AtLaws.{number-at}
@@ -21,6 +21,51 @@ use Rattle.wire.specs.declared.Cursor.{Cursor}
 -- A cursor with no refusal.
 abbrev pub here : ℕ → Cursor
 here at = record { at = at; refusal = 0 }
+
+-- ---- one layout behind another
+
+abbrev pub andThen : Layout → Layout → Layout
+andThen done k = k
+andThen (field w rule f) k = field w rule (λ v. andThen (f v) k)
+andThen (split w low rule l) k = split w low rule (andThen l k)
+andThen (string rule f) k = string rule (λ t. andThen (f t) k)
+
+-- What the first reads to, then what the second does.
+abbrev joined : Layout → Result (List Value) → Result (List Value)
+joined k (found us rest) = mapResult (λ ws. us ++ ws) (parse k rest)
+joined k (refused n left) = refused n left
+
+put-joined : (k : Layout) (v : Value) (q : Result (List Value)) → joined k (put v q) ≡ put v (joined k q)
+put-joined k v (refused n left) = refl
+put-joined k v (found us rest) = go (parse k rest)
+  where
+    go : (q : Result (List Value)) → mapResult (λ ws. v ∷ us ++ ws) q ≡ put v (mapResult (λ ws. us ++ ws) q)
+    go (found ws rest) = refl
+    go (refused n left) = refl
+
+joined-next : {A : Type 0} (k : Layout) (q : Result A) (value : A → Value) (f g : A → List ℕ → Result (List Value))
+    → ((a : A) (rest : List ℕ) → g a rest ≡ joined k (f a rest))
+    → bind q (λ a rest. put (value a) (g a rest)) ≡ joined k (bind q (λ a rest. put (value a) (f a rest)))
+joined-next k (refused n left) value f g h = refl
+joined-next k (found a rest) value f g h = ap (put (value a)) (h a rest) ∙ sym (put-joined k (value a) (f a rest))
+
+parse-then : (l k : Layout) (bs : List ℕ) → parse (andThen l k) bs ≡ joined k (parse l bs)
+unfolding parse
+parse-then done k bs = go (parse k bs)
+  where
+    go : (q : Result (List Value)) → q ≡ mapResult (λ ws. ws) q
+    go (found ws rest) = refl
+    go (refused n left) = refl
+parse-then (field w rule f) k bs =
+    joined-next k (readNumber w rule bs) number (λ v rest. parse (f v) rest) (λ v rest. parse (andThen (f v) k) rest)
+    (λ v rest. parse-then (f v) k rest)
+parse-then (split w low rule l) k bs =
+    joined-next k (readNumber w (λ v. rule (v / 2 ^ low)) bs) (λ v. number (v % 2 ^ low)) (λ v rest. put (number (v / 2 ^ low)) (parse l rest))
+    (λ v rest. put (number (v / 2 ^ low)) (parse (andThen l k) rest))
+    (λ v rest. ap (put (number (v / 2 ^ low))) (parse-then l k rest) ∙ sym (put-joined k (number (v / 2 ^ low)) (parse l rest)))
+parse-then (string rule f) k bs =
+    joined-next k (readString stringLimit rule bs) text (λ t rest. parse (f t) rest) (λ t rest. parse (andThen (f t) k) rest)
+    (λ t rest. parse-then (f t) k rest)
 
 module _ (s : List ℕ) where
   -- A refusal that was kept is what any later reading answers.
@@ -106,6 +151,39 @@ module _ (s : List ℕ) where
       sym (put-gotten (text t) vs e)
       ∙ step (readString stringLimit rule) k (λ t r. put (text t) r) (λ t r. put-at (text t) r) (λ t n left. refl) t c d e vs p q
 
+  -- A layout, then another.
+  pub reads-then : (l k : Layout) (us vs : List Value) (c d e : Cursor) → gotten s us d ≡ parseAt s c l → gotten s vs e ≡ parseAt s d k
+      → gotten s (us ++ vs) e ≡ parseAt s c (andThen l k)
+  unfolding gotten parseAt whole
+  reads-then l k us vs c d e p q =
+      all-gotten e
+      ∙ step (parse l) (λ us. k) (λ us r. mapResult (λ ws. us ++ ws) r) at-all (λ us n left. refl) us c d e vs p q
+      ∙ go (eqb (c .refusal) 0)
+    where
+      at-all : (us : List Value) (q : Result (List Value))
+          → refusedAt [] (mapResult (λ ws. us ++ ws) q) ≡ mapResult (λ ws. us ++ ws) (refusedAt [] q)
+      at-all us (found ws rest) = refl
+      at-all us (refused n left) = refl
+
+      all-gotten : (e : Cursor) → gotten s (us ++ vs) e ≡ mapResult (λ ws. us ++ ws) (gotten s vs e)
+      all-gotten e = go′ (eqb (e .refusal) 0)
+        where
+          go′ : (b : Bool) → cond b (found (us ++ vs) (drop (e .at) s)) (refused (e .refusal) [])
+              ≡ mapResult (λ ws. us ++ ws) (cond b (found vs (drop (e .at) s)) (refused (e .refusal) []))
+          go′ true = refl
+          go′ false = refl
+
+      same : (q : Result (List Value)) → bind q (λ us rest. mapResult (λ ws. us ++ ws) (parse k rest)) ≡ joined k q
+      same (found us rest) = refl
+      same (refused n left) = refl
+
+      go : (b : Bool)
+          → cond b (refusedAt [] (bind (parse l (drop (c .at) s)) (λ us rest. mapResult (λ ws. us ++ ws) (parse k rest))))
+          (refused (c .refusal) [])
+          ≡ cond b (refusedAt [] (parse (andThen l k) (drop (c .at) s))) (refused (c .refusal) [])
+      go true = ap (refusedAt []) (same (parse l (drop (c .at) s)) ∙ sym (parse-then l k (drop (c .at) s)))
+      go false = refl
+
   -- A number split into its low and high bits.
   pub reads-split : (w low : ℕ) (rule : ℕ → ℕ) (k : Layout) (v : ℕ) (c d e : Cursor) (vs : List Value)
       → gotten s v d ≡ numberAt s c w (λ v. rule (v / 2 ^ low)) → gotten s vs e ≡ parseAt s d k
@@ -135,6 +213,11 @@ module _ (s : List ℕ) where
   number-cut c w e p h =
       let l : leb w (length (drop (c .at) s)) ≡ false = lt-leb w (length (drop (c .at) s)) (simp length-drop (omega arith)) in
       rw (eq-eqb (c .refusal) 0 e, l)
+
+  -- A field that is not sent.
+  pub number-unsent : (c : Cursor) → gotten s 0 c ≡ numberAt s c 0 free
+  unfolding gotten numberAt readNumber
+  number-unsent c = rw (le-leb 0 (length (drop (c .at) s)) zero-le)
 
   -- ---- a number, then a test of it: a field with a rule
 
@@ -185,3 +268,9 @@ module _ (s : List ℕ) where
       → 0 < code r → gotten s v (ruled d (bad v) (code r)) ≡ numberAt s c w (λ v. unless (not (bad v)) r)
   reads-ruled w bad r v c d p h =
       gotten-judged v d bad r h ∙ ap (judge (λ v. unless (not (bad v)) r)) p ∙ sym (number-judged c w (λ v. unless (not (bad v)) r))
+
+-- ---- bits, as code takes them
+
+pub set-not : (x : ℕ) → not (eqb x 0) ≡ isSet x
+set-not zero = refl
+set-not (suc x) = ap not (ne-eqb (suc x) 0 (λ z. omega arith))

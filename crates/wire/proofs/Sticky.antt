@@ -9,12 +9,16 @@ use native.Mathlib.Omega.{arith}
 use borrow.Author.Tests.{eq-eqb, ne-eqb, lt-leb, le-leb}
 use lib.Dec.{leb, eqb}
 use lib.ListN.{length, take, drop, length-drop}
+use lib.IntN.{ℤ}
+use mir.Syntax.{Width}
+use mir.Val.{toZ, ofZ, SFits}
 use Rattle.dem.specs.Limits.{stringLimit}
 use Rattle.dem.specs.Refusal.{Refusal, code, cutMessage}
 use Rattle.dem.specs.Bytes.{Result, found, refused, mapResult, bind, refusedAt, unless, require, free, leRead, readNumber, readString, isSet}
 use Rattle.dem.specs.Layout.{Value, number, text, Layout, done, field, split, string, put, parse}
 use Rattle.dem.proofs.ResultLaws.{clash}
 use Rattle.dem.proofs.AtLaws.{number-at}
+use Rattle.wire.proofs.SignedLaws.{same-bits}
 use Rattle.wire.specs.Cursors.{gotten, readAt, numberAt, stringAt, parseAt, ruled}
 use Rattle.wire.specs.declared.Cursor.{Cursor}
 
@@ -94,7 +98,7 @@ module _ (s : List ℕ) where
       go false q e = clash (cc)
 
   -- Values in front of what was read.
-  put-gotten : (v : Value) (vs : List Value) (c : Cursor) → put v (gotten s vs c) ≡ gotten s (v ∷ vs) c
+  pub put-gotten : (v : Value) (vs : List Value) (c : Cursor) → put v (gotten s vs c) ≡ gotten s (v ∷ vs) c
   unfolding gotten
   put-gotten v vs c = go (eqb (c .refusal) 0)
     where
@@ -150,6 +154,14 @@ module _ (s : List ℕ) where
   reads-string rule k t c d e vs p q =
       sym (put-gotten (text t) vs e)
       ∙ step (readString stringLimit rule) k (λ t r. put (text t) r) (λ t r. put-at (text t) r) (λ t n left. refl) t c d e vs p q
+
+  -- A signed number without a rule, which is handed on by its bits.
+  pub reads-signed : (w : Width) (n : ℕ) (k : Layout) (z : ℤ) (c d e : Cursor) (vs : List Value) → SFits w z
+      → gotten s (ofZ w z) d ≡ numberAt s c n free → gotten s vs e ≡ parseAt s d k
+      → gotten s (number (ofZ w (toZ w (ofZ w z))) ∷ vs) e ≡ parseAt s c (field n free (λ v. k))
+  reads-signed w n k z c d e vs f p q =
+      reads-field n free (λ v. k) (ofZ w (toZ w (ofZ w z))) c d e vs
+      (ap (λ (v : ℕ). gotten s v d) (same-bits w z (ofZ w z) f refl) ∙ p) q
 
   -- A layout, then another.
   pub reads-then : (l k : Layout) (us vs : List Value) (c d e : Cursor) → gotten s us d ≡ parseAt s c l → gotten s vs e ≡ parseAt s d k

@@ -1,4 +1,4 @@
--- Document 01's number and values of each message as sent. Strings are bytes of the text that the message was read from.
+-- Document 01's number and values of each message as sent.
 use mathlib.Core.List.{List, [], _∷_, _++_}
 use Prim.Native.Nat.{ℕ}
 use lib.IntN.{ℤ}
@@ -56,9 +56,9 @@ abbrev pub temporaryValues : Temporary → List Value
 temporaryValues (Point k v) = number k ∷ vectorValues v
 temporaryValues (Line k e v w) = number k ∷ number (e .0) ∷ (vectorValues v ++ vectorValues w)
 
-abbrev pub serverinfoValues : List ℕ → Serverinfo → List Value
+abbrev pub serverinfoValues : (Text → List ℕ) → Serverinfo → List Value
 serverinfoValues t s =
-    long (s .protocol) ∷ number (s .limit) ∷ number (s .game) ∷ text (textIn t (s .map)) ∷ namesIn [] (textIn t (s .names))
+    long (s .protocol) ∷ number (s .limit) ∷ number (s .game) ∷ text (t (s .map)) ∷ namesIn [] (t (s .names))
 
 abbrev pub motionValues : Motion → List Value
 motionValues m =
@@ -86,39 +86,43 @@ abbrev pub updateValues : Update → List Value
 updateValues u =
     number (u .number) ∷ number (u .high) ∷ number (u .entity .0) ∷ (lookValues (u .look) ++ (number (u .effects) ∷ poseValues (u .pose)))
 
--- A message of text t.
+-- A message whose strings are the bytes that t says.
+abbrev pub valuesBy : (Text → List ℕ) → Message → List Value
+valuesBy t M.Nop = number 1 ∷ []
+valuesBy t M.Disconnect = number Kind.disconnect ∷ []
+valuesBy t (M.Stat i v) = number Kind.stat ∷ number i ∷ long v ∷ []
+valuesBy t (M.Version v) = number 4 ∷ long v ∷ []
+valuesBy t (M.View e) = number Kind.view ∷ number (e .0) ∷ []
+valuesBy t (M.Sound s) = number Kind.sound ∷ soundValues s
+valuesBy t (M.Time v) = number Kind.time ∷ number v ∷ []
+valuesBy t (M.Print p) = number 8 ∷ text (t p) ∷ []
+valuesBy t (M.Stufftext p) = number 9 ∷ text (t p) ∷ []
+valuesBy t (M.SetAngles a b c) = number 10 ∷ char a ∷ char b ∷ char c ∷ []
+valuesBy t (M.Serverinfo s) = number Kind.serverinfo ∷ serverinfoValues t s
+valuesBy t (M.Style i p) = number 12 ∷ number i ∷ text (t p) ∷ []
+valuesBy t (M.Name p n) = number 13 ∷ number (p .0) ∷ text (t n) ∷ []
+valuesBy t (M.Frags p v) = number Kind.frags ∷ number (p .0) ∷ short v ∷ []
+valuesBy t (M.Clientdata c) = number Kind.clientdata ∷ clientValues c
+valuesBy t (M.Stopsound c e) = number 16 ∷ number c ∷ number (e .0) ∷ []
+valuesBy t (M.Colours p v) = number Kind.colours ∷ number (p .0) ∷ number v ∷ []
+valuesBy t (M.Particle p) = number 18 ∷ particleValues p
+valuesBy t (M.Damage a b v) = number 19 ∷ number a ∷ number b ∷ vectorValues v
+valuesBy t (M.Static l p) = number Kind.static ∷ (lookValues l ++ poseValues p)
+valuesBy t (M.Baseline e l p) = number Kind.baseline ∷ number (e .0) ∷ (lookValues l ++ poseValues p)
+valuesBy t (M.Temporary k) = number Kind.temporary ∷ temporaryValues k
+valuesBy t (M.Pause v) = number Kind.pause ∷ number v ∷ []
+valuesBy t (M.Signon v) = number 25 ∷ number v ∷ []
+valuesBy t (M.Centerprint p) = number 26 ∷ text (t p) ∷ []
+valuesBy t M.Killed = number Kind.killed ∷ []
+valuesBy t M.Secret = number Kind.secret ∷ []
+valuesBy t (M.StaticSound v a b c) = number 29 ∷ (vectorValues v ++ (number a ∷ number b ∷ number c ∷ []))
+valuesBy t M.Intermission = number 30 ∷ []
+valuesBy t (M.Finale p) = number 31 ∷ text (t p) ∷ []
+valuesBy t (M.Track a b) = number 32 ∷ number a ∷ number b ∷ []
+valuesBy t M.Sellscreen = number 33 ∷ []
+valuesBy t (M.Cutscene p) = number 34 ∷ text (t p) ∷ []
+valuesBy t (M.Update u) = updateValues u
+
+-- A message that was read from these bytes.
 abbrev pub valuesOf : List ℕ → Message → List Value
-valuesOf t M.Nop = number 1 ∷ []
-valuesOf t M.Disconnect = number Kind.disconnect ∷ []
-valuesOf t (M.Stat i v) = number Kind.stat ∷ number i ∷ long v ∷ []
-valuesOf t (M.Version v) = number 4 ∷ long v ∷ []
-valuesOf t (M.View e) = number Kind.view ∷ number (e .0) ∷ []
-valuesOf t (M.Sound s) = number Kind.sound ∷ soundValues s
-valuesOf t (M.Time v) = number Kind.time ∷ number v ∷ []
-valuesOf t (M.Print p) = number 8 ∷ text (textIn t p) ∷ []
-valuesOf t (M.Stufftext p) = number 9 ∷ text (textIn t p) ∷ []
-valuesOf t (M.SetAngles a b c) = number 10 ∷ char a ∷ char b ∷ char c ∷ []
-valuesOf t (M.Serverinfo s) = number Kind.serverinfo ∷ serverinfoValues t s
-valuesOf t (M.Style i p) = number 12 ∷ number i ∷ text (textIn t p) ∷ []
-valuesOf t (M.Name p n) = number 13 ∷ number (p .0) ∷ text (textIn t n) ∷ []
-valuesOf t (M.Frags p v) = number Kind.frags ∷ number (p .0) ∷ short v ∷ []
-valuesOf t (M.Clientdata c) = number Kind.clientdata ∷ clientValues c
-valuesOf t (M.Stopsound c e) = number 16 ∷ number c ∷ number (e .0) ∷ []
-valuesOf t (M.Colours p v) = number Kind.colours ∷ number (p .0) ∷ number v ∷ []
-valuesOf t (M.Particle p) = number 18 ∷ particleValues p
-valuesOf t (M.Damage a b v) = number 19 ∷ number a ∷ number b ∷ vectorValues v
-valuesOf t (M.Static l p) = number Kind.static ∷ (lookValues l ++ poseValues p)
-valuesOf t (M.Baseline e l p) = number Kind.baseline ∷ number (e .0) ∷ (lookValues l ++ poseValues p)
-valuesOf t (M.Temporary k) = number Kind.temporary ∷ temporaryValues k
-valuesOf t (M.Pause v) = number Kind.pause ∷ number v ∷ []
-valuesOf t (M.Signon v) = number 25 ∷ number v ∷ []
-valuesOf t (M.Centerprint p) = number 26 ∷ text (textIn t p) ∷ []
-valuesOf t M.Killed = number Kind.killed ∷ []
-valuesOf t M.Secret = number Kind.secret ∷ []
-valuesOf t (M.StaticSound v a b c) = number 29 ∷ (vectorValues v ++ (number a ∷ number b ∷ number c ∷ []))
-valuesOf t M.Intermission = number 30 ∷ []
-valuesOf t (M.Finale p) = number 31 ∷ text (textIn t p) ∷ []
-valuesOf t (M.Track a b) = number 32 ∷ number a ∷ number b ∷ []
-valuesOf t M.Sellscreen = number 33 ∷ []
-valuesOf t (M.Cutscene p) = number 34 ∷ text (textIn t p) ∷ []
-valuesOf t (M.Update u) = updateValues u
+valuesOf s m = valuesBy (textIn s) m

@@ -190,15 +190,15 @@ impl Maker {
 
     fn client(&mut self, turn: usize) -> ClientData {
         let rng = &mut self.rng;
-        let walks = turn / 30 % 3 > 0;
+        let walks = turn % 90 >= 30;
         let mut speed = || if walks { rng.below(40) as i8 - 20 } else { 0 };
         ClientData {
             view_height: 22,
             velocity: [speed(), speed(), 0],
             items: 431_231,
-            ground: turn / 20 % 5 > 0,
-            weapon_frame: if turn / 10 % 4 == 0 { (turn % 6) as u8 } else { 0 },
-            armour: if turn / 500 % 2 == 0 { 102 } else { 0 },
+            ground: turn % 100 >= 20,
+            weapon_frame: if turn % 40 < 10 { (turn % 6) as u8 } else { 0 },
+            armour: if turn % 1000 < 500 { 102 } else { 0 },
             weapon_model: 8,
             health: 39,
             ammo: (turn % 100) as u8,

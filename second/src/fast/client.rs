@@ -1,6 +1,6 @@
 //! Clientdata: once a block in a game.
 
-use super::output::Output;
+use super::output::{Output, ROOM};
 use super::scene::Client;
 use super::{good, Bad, Pass};
 
@@ -15,8 +15,8 @@ const ITEMS: u16 = 1 << 9;
 const FLAGS: u16 = 1 << 10 | 1 << 11;
 /// Number and mask, items, and the last eight bytes.
 const ALWAYS: usize = 3 + 4 + 8;
-/// All fields sent.
-const LONGEST: usize = ALWAYS + 8 + 3;
+/// More bytes than any clientdata has.
+const WINDOW: usize = 32;
 
 impl<O: Output> Pass<'_, O> {
     #[inline(always)]
@@ -37,12 +37,12 @@ impl<O: Output> Pass<'_, O> {
             water: mask & 1 << 11 != 0,
             ..Client::default()
         };
-        let message = &self.input[at + 3..next];
-        let at_items = take_sent(message, mask, &FIRST_BITS, &mut client.first);
-        let (items, after_items) = message[at_items..].split_at(4);
-        client.items.copy_from_slice(items);
-        let at_last = take_sent(after_items, mask, &EXTRA_BITS, &mut client.extra);
-        client.last.copy_from_slice(&after_items[at_last..]);
+        let mut short = [0; WINDOW];
+        let window = self.window(at, &mut short);
+        let items = take_sent(window, 3, mask, &FIRST_BITS, &mut client.first);
+        client.items = bytes(window, items);
+        let last = take_sent(window, items + 4, mask, &EXTRA_BITS, &mut client.extra);
+        client.last = bytes(window, last);
         if O::WRITES {
             let normal = normal_mask(&client, mask);
             if normal != mask {
@@ -53,8 +53,21 @@ impl<O: Output> Pass<'_, O> {
         Ok(next)
     }
 
+    /// The window that begins at `at`; past the end of the input it is zeros.
+    #[inline(always)]
+    fn window<'a>(&'a self, at: usize, short: &'a mut [u8; WINDOW]) -> &'a [u8; WINDOW] {
+        let rest = &self.input[at..];
+        match rest.first_chunk() {
+            Some(window) => window,
+            None => {
+                short[..rest.len()].copy_from_slice(rest);
+                short
+            }
+        }
+    }
+
     fn rewrite_client(&mut self, block: usize, at: usize, next: usize, client: &Client, mask: u16) {
-        let mut out = [0; LONGEST];
+        let mut out = [0; ROOM];
         out[0] = 15;
         out[1..3].copy_from_slice(&mask.to_le_bytes());
         let mut length = 3;
@@ -63,7 +76,7 @@ impl<O: Output> Pass<'_, O> {
         length += 4;
         length += put_sent(&mut out[length..], mask, &EXTRA_BITS, &client.extra);
         out[length..length + 8].copy_from_slice(&client.last);
-        self.output.replace(block, at, next, [&out[..length + 8], &[], &[]]);
+        self.output.replace(block, at, next, &out, length + 8);
     }
 
     #[inline(always)]
@@ -80,17 +93,28 @@ impl<O: Output> Pass<'_, O> {
     }
 }
 
-/// Takes the fields sent out of `bytes`; how many bytes they were.
+/// Takes the fields sent, which begin at `at`; where they end. Without a branch
+/// for each: which fields are sent changes too often to be foreseen.
 #[inline(always)]
-fn take_sent(bytes: &[u8], mask: u16, bits: &[u16], fields: &mut [u8]) -> usize {
-    let mut at = 0;
+fn take_sent(
+    window: &[u8; WINDOW],
+    mut at: usize,
+    mask: u16,
+    bits: &[u16],
+    fields: &mut [u8],
+) -> usize {
     for (field, bit) in fields.iter_mut().zip(bits) {
-        if mask >> bit & 1 != 0 {
-            *field = bytes[at];
-            at += 1;
-        }
+        let sent = mask >> bit & 1;
+        let byte = window[at % WINDOW];
+        *field = if sent != 0 { byte } else { *field };
+        at += usize::from(sent);
     }
     at
+}
+
+#[inline(always)]
+fn bytes<const N: usize>(window: &[u8; WINDOW], at: usize) -> [u8; N] {
+    *window[at % WINDOW..].first_chunk().expect("a clientdata ends inside the window")
 }
 
 /// Puts the fields that the mask sends into `bytes`; how many bytes they are.
@@ -108,11 +132,11 @@ fn put_sent(bytes: &mut [u8], mask: u16, bits: &[u16], fields: &[u8]) -> usize {
 #[inline(always)]
 fn normal_mask(client: &Client, mask: u16) -> u16 {
     let mut normal = ITEMS | mask & FLAGS;
-    for i in 0..8 {
-        normal |= u16::from(client.first[i] != FIRST_DEFAULTS[i]) << FIRST_BITS[i];
+    for (i, bit) in FIRST_BITS.into_iter().enumerate() {
+        normal |= u16::from(client.first[i] != FIRST_DEFAULTS[i]) << bit;
     }
-    for i in 0..3 {
-        normal |= u16::from(client.extra[i] != 0) << EXTRA_BITS[i];
+    for (i, bit) in EXTRA_BITS.into_iter().enumerate() {
+        normal |= u16::from(client.extra[i] != 0) << bit;
     }
     normal
 }

@@ -153,11 +153,19 @@ impl<O: Output> Pass<'_, O> {
         let mut place = at + BLOCK_HEAD;
         let mut count = 0;
         while place < end {
-            match self.message::<SHUFFLE>(at, place, end) {
-                Ok(next) => place = next,
-                Err(Bad) => return Err(cold::refusal(self.input, place, end, self.scene)),
+            if self.input[place] >= 128 {
+                let run = self.updates::<SHUFFLE>(at, place, end);
+                place = run.place;
+                count += run.count;
+                if !run.bad {
+                    continue;
+                }
+            } else if let Ok(next) = self.message(at, place, end) {
+                place = next;
+                count += 1;
+                continue;
             }
-            count += 1;
+            return Err(cold::refusal(self.input, place, end, self.scene));
         }
         Ok((end, count))
     }
@@ -184,19 +192,10 @@ impl<O: Output> Pass<'_, O> {
         Ok(at + BLOCK_HEAD + size)
     }
 
-    /// One message of the block at `block`: the place after it.
-    #[inline(always)]
-    fn message<const SHUFFLE: bool>(
-        &mut self,
-        block: usize,
-        at: usize,
-        end: usize,
-    ) -> Result<usize, Bad> {
-        let number = self.input[at];
-        if number >= 128 {
-            return self.update::<SHUFFLE>(block, at, end);
-        }
-        match number {
+    /// One message of the block at `block`, not an update: the place after it.
+    #[inline(never)]
+    fn message(&mut self, block: usize, at: usize, end: usize) -> Result<usize, Bad> {
+        match self.input[at] {
             1 | 30 | 33 => Ok(at + 1),
             2 => self.disconnect(at, end),
             3 => self.stat(at, end),
@@ -291,18 +290,32 @@ impl<O: Output> Pass<'_, O> {
         let message = &self.input[at..next];
         good(sound_entity(message[2 + sent], message[3 + sent]), ())?;
         if O::WRITES && mask != 0 {
-            let keep = |bit: u8, value: u8, default: u8| mask & bit != 0 && value != default;
-            let volume = keep(1, message[2], 255);
-            let attenuation = keep(2, message[1 + sent], 64);
-            let normal = u8::from(volume) | u8::from(attenuation) << 1;
-            if normal != mask {
-                let kept = [if volume { message[2] } else { message[1 + sent] }];
-                let kept = &kept[..usize::from(volume | attenuation)];
-                let parts = [&[6, normal], kept, &message[2 + sent..]];
-                self.output.replace(block, at, next, parts);
-            }
+            self.rewrite_sound(block, at, next);
         }
         Ok(next)
+    }
+
+    /// Leaves volume 255 and attenuation 64 out of a sound, if it sends them.
+    fn rewrite_sound(&mut self, block: usize, at: usize, next: usize) {
+        let message = &self.input[at..next];
+        let mask = message[1];
+        let mut normal = [0; output::ROOM];
+        let mut length = 2;
+        for (bit, default) in [(0, 255), (1, 64)] {
+            let sent = mask >> bit & 1;
+            // The volume comes first; the attenuation is the last byte sent.
+            let value = message[2 + usize::from(sent & mask & bit)];
+            let keep = sent & u8::from(value != default);
+            normal[length] = value;
+            length += usize::from(keep);
+            normal[1] |= keep << bit;
+        }
+        if normal[1] != mask {
+            let rest = &message[message.len() - 9..];
+            normal[0] = 6;
+            normal[length..length + 9].copy_from_slice(rest);
+            self.output.replace(block, at, next, &normal, length + 9);
+        }
     }
 
     fn server_info(&mut self, at: usize, end: usize) -> Result<usize, Bad> {

@@ -2,15 +2,21 @@
 
 /// Room beyond the normal form, which is never longer than the input.
 pub const SLACK: usize = 64;
+/// The messages that may not be normal are no longer than this.
+pub const ROOM: usize = 32;
 /// So much unchanged input is left to stand before it is copied; small enough
 /// to be in the nearest caches still.
 const STANDING: usize = 16 * 1024;
+/// Pieces up to this length are copied in strides.
+const SHORT: usize = 512;
+const STRIDE: usize = ROOM;
 
 pub trait Output {
     /// Whether messages must be compared with their normal form at all.
     const WRITES: bool;
-    /// The message `at..next` of the block at `block` has this normal form.
-    fn replace(&mut self, block: usize, at: usize, next: usize, parts: [&[u8]; 3]);
+    /// The normal form of the message `at..next` of the block at `block` is the
+    /// first `length` bytes of `normal`.
+    fn replace(&mut self, block: usize, at: usize, next: usize, normal: &[u8; ROOM], length: usize);
     fn end_block(&mut self, block: usize, end: usize);
     fn refuse_block(&mut self, block: usize);
     fn finish(&mut self);
@@ -21,7 +27,7 @@ pub struct Discard;
 
 impl Output for Discard {
     const WRITES: bool = false;
-    fn replace(&mut self, _: usize, _: usize, _: usize, _: [&[u8]; 3]) {}
+    fn replace(&mut self, _: usize, _: usize, _: usize, _: &[u8; ROOM], _: usize) {}
     fn end_block(&mut self, _: usize, _: usize) {}
     fn refuse_block(&mut self, _: usize) {}
     fn finish(&mut self) {}
@@ -45,9 +51,37 @@ impl<'a> Normal<'a> {
         Normal { input, out, standing: start, head: None, saved: 0 }
     }
 
+    /// Copies the input that stands before `at`.
+    #[inline(always)]
     fn copy_to(&mut self, at: usize) {
-        self.out.extend_from_slice(&self.input[self.standing..at]);
+        let mut from = self.standing;
         self.standing = at;
+        // Short pieces are not worth a call: whole strides are copied while
+        // the next stride may be overwritten and is inside the input.
+        if at - from <= SHORT && at + STRIDE <= self.input.len() {
+            self.out.reserve(SHORT + STRIDE);
+            while from < at {
+                let stride = self.input[from..].first_chunk().expect("inside the input");
+                self.push(stride, STRIDE.min(at - from));
+                from += STRIDE;
+            }
+        } else {
+            self.out.extend_from_slice(&self.input[from..at]);
+        }
+    }
+
+    /// Appends the first `length` bytes, by copying all of them.
+    #[inline(always)]
+    fn push(&mut self, bytes: &[u8; ROOM], length: usize) {
+        self.out.reserve(ROOM);
+        let end = self.out.len();
+        assert!(length <= ROOM);
+        // SAFETY: there is room for all of the bytes, and the first `length` of
+        // them are written.
+        unsafe {
+            self.out.as_mut_ptr().add(end).cast::<[u8; ROOM]>().write(*bytes);
+            self.out.set_len(end + length);
+        }
     }
 }
 
@@ -55,14 +89,20 @@ impl Output for Normal<'_> {
     const WRITES: bool = true;
 
     #[inline(never)]
-    fn replace(&mut self, block: usize, at: usize, next: usize, parts: [&[u8]; 3]) {
+    fn replace(
+        &mut self,
+        block: usize,
+        at: usize,
+        next: usize,
+        normal: &[u8; ROOM],
+        length: usize,
+    ) {
         if self.head.is_none() {
             self.head = Some(self.out.len() + block - self.standing);
         }
         self.copy_to(at);
-        let before = self.out.len();
-        parts.iter().for_each(|part| self.out.extend_from_slice(part));
-        self.saved += next - at - (self.out.len() - before);
+        self.push(normal, length);
+        self.saved += next - at - length;
         self.standing = next;
     }
 

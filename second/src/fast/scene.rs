@@ -1,6 +1,8 @@
 //! The scene laid out for reading in place.
 
 use crate::scene as plain;
+#[cfg(target_arch = "x86_64")]
+use std::arch::x86_64::*;
 
 /// An entity's fields in the order of the wire: model, frame, colormap, skin,
 /// effects, then x, angle 0, y, angle 1, z, angle 2. Byte 14 is bit 5 of a
@@ -11,6 +13,21 @@ pub struct Wire(pub [u8; 16]);
 
 /// Where the wire has one axis after the other.
 const AXES: [usize; 3] = [5, 8, 11];
+
+#[cfg(target_arch = "x86_64")]
+impl Wire {
+    #[inline(always)]
+    pub fn load(&self) -> __m128i {
+        // SAFETY: SSE2 is part of x86_64, and a `Wire` is 16 aligned bytes.
+        unsafe { _mm_load_si128(self.0.as_ptr().cast()) }
+    }
+
+    #[inline(always)]
+    pub fn store(&mut self, bytes: __m128i) {
+        // SAFETY: as above.
+        unsafe { _mm_store_si128(self.0.as_mut_ptr().cast(), bytes) }
+    }
+}
 
 impl Wire {
     fn origin(&self) -> [i16; 3] {

@@ -4,7 +4,7 @@
 //! from the baseline. A field that was sent needlessly shows as one that does
 //! not differ from the baseline.
 
-use super::output::Output;
+use super::output::{Output, ROOM};
 use super::scene::Wire;
 use super::{good, Bad, Pass, MAX_ENTITY};
 
@@ -13,18 +13,20 @@ use super::{good, Bad, Pass, MAX_ENTITY};
 /// Index of the first group: model, colormap, skin, effects, frame from bit 0.
 /// Index of the second: x, y, z, angle 1, angle 0, angle 2 from bit 0.
 #[inline(always)]
-fn groups(low: u8, high: u8) -> (usize, usize) {
+const fn groups(low: u8, high: u8) -> (usize, usize) {
     let first = (high >> 2 & 15) | (low >> 6 & 1) << 4;
     let second = (low >> 1 & 15) | (high & 3) << 4;
     (first as usize, second as usize)
 }
 
 /// What to do for one value of a group's index.
-#[repr(C, align(32))]
+#[repr(C, align(64))]
 #[derive(Clone, Copy)]
 struct Group {
     /// For each byte of a `Wire` the byte sent for it, or 80 if none is.
-    spread: [u8; 16],
+    spread: Wire,
+    /// For each byte sent the byte of a `Wire`, then 80.
+    gather: Wire,
     /// A bit for each field sent, at the first of its bytes.
     sent: u16,
     /// How many bytes are sent.
@@ -41,7 +43,8 @@ const SECOND: [Field; 6] = [(5, 2, 0), (7, 1, 4), (8, 2, 1), (10, 1, 3), (11, 2,
 const PAIRS: u32 = 1 << 5 | 1 << 8 | 1 << 11;
 
 const fn group(index: usize, fields: &[Field]) -> Group {
-    let mut group = Group { spread: [0x80; 16], sent: 0, length: 0 };
+    let mut group =
+        Group { spread: Wire([0x80; 16]), gather: Wire([0x80; 16]), sent: 0, length: 0 };
     let mut i = 0;
     while i < fields.len() {
         let (at, width, bit) = fields[i];
@@ -49,7 +52,8 @@ const fn group(index: usize, fields: &[Field]) -> Group {
             group.sent |= 1 << at;
             let mut byte = 0;
             while byte < width {
-                group.spread[at + byte] = group.length;
+                group.spread.0[at + byte] = group.length;
+                group.gather.0[group.length as usize] = (at + byte) as u8;
                 group.length += 1;
                 byte += 1;
             }
@@ -82,80 +86,178 @@ const fn second_groups() -> [Group; 64] {
 static FIRST_GROUPS: [Group; 32] = first_groups();
 static SECOND_GROUPS: [Group; 64] = second_groups();
 
+/// What an update's first two bytes, number and high byte or entity, say of the
+/// rest. The next message waits for the length, so all of it is one load.
+#[derive(Clone, Copy)]
+struct Shape(u32);
+
+impl Shape {
+    const fn new(low: u8, second: u8) -> Shape {
+        let has_high = low & 1 == 1;
+        let high = if has_high { second } else { 0 };
+        let (first, axes) = groups(low, high);
+        let wide = (high >> 6 & 1) as u32;
+        let fields = 2 + has_high as u32 + wide;
+        let length =
+            fields + group(first, &FIRST).length as u32 + group(axes, &SECOND).length as u32;
+        Shape(
+            length
+                | fields << 8
+                | (1 - wide) << 11
+                | (first as u32) << 12
+                | (axes as u32) << 17
+                | wide << 23
+                | ((has_high && high == 0) as u32) << 24
+                | ((high >> 7) as u32) << 31,
+        )
+    }
+
+    /// The length of the whole message.
+    #[inline(always)]
+    fn length(self) -> usize {
+        (self.0 & 0xFF) as usize
+    }
+
+    /// Where the fields begin, after an entity of one or two bytes.
+    #[inline(always)]
+    fn fields(self) -> usize {
+        (self.0 >> 8 & 7) as usize
+    }
+
+    /// The entity, given the two bytes before the fields.
+    #[inline(always)]
+    fn entity(self, before: u16) -> u16 {
+        before >> (self.0 >> 8 & 8)
+    }
+
+    #[inline(always)]
+    fn first(self) -> &'static Group {
+        &FIRST_GROUPS[(self.0 >> 12 & 31) as usize]
+    }
+
+    #[inline(always)]
+    fn axes(self) -> &'static Group {
+        &SECOND_GROUPS[(self.0 >> 17 & 63) as usize]
+    }
+
+    /// Not 0 if the high byte or the width of the entity is needless.
+    #[inline(always)]
+    fn needless_head(self, entity: u16) -> u32 {
+        (self.0 >> 23 & 1 ^ u32::from(entity >> 8)) | self.0 & 1 << 24
+    }
+
+    #[inline(always)]
+    fn reserved(self) -> bool {
+        self.0 >> 31 != 0
+    }
+}
+
+static SHAPES: [[Shape; 256]; 128] = shapes();
+
+const fn shapes() -> [[Shape; 256]; 128] {
+    let mut shapes = [[Shape(0); 256]; 128];
+    let mut low = 0;
+    while low < 128 {
+        let mut second = 0;
+        while second < 256 {
+            shapes[low][second] = Shape::new(low as u8, second as u8);
+            second += 1;
+        }
+        low += 1;
+    }
+    shapes
+}
+
 /// So many bytes from the number on may be loaded for an update.
 const WINDOW: usize = 32;
 
+/// Updates one after the other: where they end, how many they are, and whether
+/// what stands there is an update that is not good.
+pub struct Run {
+    pub place: usize,
+    pub count: usize,
+    pub bad: bool,
+}
+
 impl<O: Output> Pass<'_, O> {
+    /// Reads the updates that stand at `at`.
     #[inline(always)]
-    pub(super) fn update<const SHUFFLE: bool>(
+    pub(super) fn updates<const SHUFFLE: bool>(
         &mut self,
         block: usize,
         at: usize,
         end: usize,
-    ) -> Result<usize, Bad> {
+    ) -> Run {
+        let mut run = Run { place: at, count: 0, bad: false };
         #[cfg(target_arch = "x86_64")]
-        if SHUFFLE && self.input.len() - at >= WINDOW {
-            // SAFETY: `SHUFFLE` is set only where SSSE3 was found, and the
-            // window is inside the input.
-            return unsafe { self.update_by_shuffle(block, at, end) };
+        if SHUFFLE {
+            // SAFETY: `SHUFFLE` is set only where SSSE3 was found.
+            run = unsafe { self.updates_by_shuffle(block, at, end) };
         }
-        self.update_by_field(block, at, end)
+        while !run.bad && run.place < end && self.input[run.place] >= 128 {
+            match self.update_by_field(block, run.place, end) {
+                Ok(next) => run.place = next,
+                Err(Bad) => run.bad = true,
+            }
+            run.count += usize::from(!run.bad);
+        }
+        run
     }
 
-    /// Spreads both groups with one shuffle each.
-    ///
-    /// # Safety
-    /// SSSE3 must be there, and `WINDOW` bytes of input from `at` on.
+    /// Spreads both groups with one shuffle each. Stops before the last bytes of
+    /// the input.
     #[cfg(target_arch = "x86_64")]
-    #[inline(always)]
-    unsafe fn update_by_shuffle(
-        &mut self,
-        block: usize,
-        at: usize,
-        end: usize,
-    ) -> Result<usize, Bad> {
+    #[target_feature(enable = "ssse3")]
+    #[inline(never)]
+    fn updates_by_shuffle(&mut self, block: usize, mut at: usize, end: usize) -> Run {
         use std::arch::x86_64::*;
-        let start = self.input.as_ptr().add(at);
-        let low = *start & 0x7F;
-        let has_high = low & 1;
-        let high = *start.add(1) & has_high.wrapping_neg();
-        let wide = high >> 6 & 1;
-        let head = 2 + usize::from(has_high);
-        let word = u16::from_le_bytes([*start.add(head - 1), *start.add(head)]);
-        let entity = word & (0x00FF | u16::from(wide).wrapping_neg());
-        let (first, second) = groups(low, high);
-        let (first, second) = (&FIRST_GROUPS[first], &SECOND_GROUPS[second]);
-        let fields = head + usize::from(wide);
-        let axes = fields + usize::from(first.length);
-        let next = at + axes + usize::from(second.length);
-        // A byte past the block's end may have been taken for a mask; then
-        // `next` is past the end too.
-        good(high & 0x80 == 0 && entity <= MAX_ENTITY && next <= end, ())?;
-        let load = |from: *const u8| _mm_loadu_si128(from.cast());
-        let spread_first = load(first.spread.as_ptr());
-        let spread_second = load(second.spread.as_ptr());
-        let sent = _mm_or_si128(
-            _mm_shuffle_epi8(load(start.add(fields)), spread_first),
-            _mm_shuffle_epi8(load(start.add(axes)), spread_second),
-        );
-        let left_out = _mm_and_si128(spread_first, spread_second);
-        let left_out = _mm_cmpgt_epi8(_mm_setzero_si128(), left_out);
-        let base = load(self.scene.baselines.get_unchecked(entity as usize).0.as_ptr());
-        let record = _mm_or_si128(sent, _mm_and_si128(left_out, base));
-        let last = i32::from(low >> 5 & 1) | i32::from(self.scene.epoch) << 8;
-        let record_now = _mm_insert_epi16::<7>(record, last);
-        let place = self.scene.records.get_unchecked_mut(entity as usize);
-        _mm_storeu_si128(place.0.as_mut_ptr().cast(), record_now);
-        if O::WRITES {
-            let equal = _mm_movemask_epi8(_mm_cmpeq_epi8(record, base)) as u32;
-            let equal_fields = equal & (equal >> 1 | !PAIRS);
-            let needless = equal_fields & u32::from(first.sent | second.sent);
-            let needless_head = has_high & u8::from(high == 0) | wide & u8::from(entity < 256);
-            if needless | u32::from(needless_head) != 0 {
-                self.rewrite(block, at, next, entity);
+        let input = self.input;
+        let stop = end.min((input.len() + 1).saturating_sub(WINDOW));
+        let epoch = i32::from(self.scene.epoch) << 8;
+        let mut count = 0;
+        while at < stop {
+            // SAFETY: `WINDOW` bytes from `at` on are inside the input, and no
+            // load below ends later than 4 + 5 + 16 bytes from `at`.
+            let start = unsafe { input.as_ptr().add(at) };
+            let byte = |i: usize| unsafe { *start.add(i) };
+            let load = |i: usize| unsafe { _mm_loadu_si128(start.add(i).cast()) };
+            if byte(0) < 128 {
+                break;
             }
+            let low = byte(0) & 0x7F;
+            let shape = SHAPES[low as usize][byte(1) as usize];
+            let next = at + shape.length();
+            let fields = shape.fields();
+            let entity = shape.entity(u16::from_le_bytes([byte(fields - 2), byte(fields - 1)]));
+            // A byte past the block's end may have been taken for a mask; then
+            // `next` is past the end too.
+            if shape.reserved() || entity > MAX_ENTITY || next > end {
+                return Run { place: at, count, bad: true };
+            }
+            let (first, axes) = (shape.first(), shape.axes());
+            let (spread_first, spread_axes) = (first.spread.load(), axes.spread.load());
+            let sent = _mm_or_si128(
+                _mm_shuffle_epi8(load(fields), spread_first),
+                _mm_shuffle_epi8(load(fields + usize::from(first.length)), spread_axes),
+            );
+            let left_out = _mm_and_si128(spread_first, spread_axes);
+            let left_out = _mm_cmpgt_epi8(_mm_setzero_si128(), left_out);
+            let base = self.scene.baselines[entity as usize].load();
+            let record = _mm_or_si128(sent, _mm_and_si128(left_out, base));
+            let last = i32::from(low >> 5 & 1) | epoch;
+            self.scene.records[entity as usize].store(_mm_insert_epi16::<7>(record, last));
+            if O::WRITES {
+                let equal = _mm_movemask_epi8(_mm_cmpeq_epi8(record, base)) as u32;
+                let equal_fields = equal & (equal >> 1 | !PAIRS);
+                let needless = equal_fields & u32::from(first.sent | axes.sent);
+                if needless | shape.needless_head(entity) != 0 {
+                    self.rewrite_by_shuffle(block, at, next, entity, needless);
+                }
+            }
+            at = next;
+            count += 1;
         }
-        Ok(next)
+        Run { place: at, count, bad: false }
     }
 
     /// The same a field at a time, for other processors and the last bytes.
@@ -191,7 +293,6 @@ impl<O: Output> Pass<'_, O> {
     }
 
     /// Puts the normal form in place of the update just read, unless it is it.
-    #[inline(never)]
     fn rewrite(&mut self, block: usize, at: usize, next: usize, entity: u16) {
         let base = &self.scene.baselines[entity as usize];
         let record = &self.scene.records[entity as usize];
@@ -199,13 +300,83 @@ impl<O: Output> Pass<'_, O> {
         // Whatever is sent needlessly takes a byte or more, so the same length
         // means the same bytes.
         if length != next - at {
-            self.output.replace(block, at, next, [&normal[..length], &[], &[]]);
+            self.output.replace(block, at, next, &normal, length);
         }
+    }
+
+    /// Puts the normal form in place of the update just read: that without the
+    /// needless fields, which have a bit at the first of their bytes.
+    #[cfg(target_arch = "x86_64")]
+    #[target_feature(enable = "ssse3")]
+    #[inline(never)]
+    fn rewrite_by_shuffle(
+        &mut self,
+        block: usize,
+        at: usize,
+        next: usize,
+        entity: u16,
+        needless: u32,
+    ) {
+        use std::arch::x86_64::*;
+        let low = self.input[at] & 0x7F;
+        let high = if low & 1 != 0 { self.input[at + 1] } else { 0 };
+        let (first, second) = groups(low, high);
+        let first = first & !usize::from(FIRST_BITS[needless as usize & 31]);
+        let second = second & !usize::from(SECOND_BITS[(needless >> 5) as usize & 511]);
+        let mut out = [0; ROOM + 16];
+        let record = self.scene.records[entity as usize].load();
+        let fields = write_head(&mut out, low >> 5 & 1, entity, first as u8, second as u8);
+        let (first, second) = (&FIRST_GROUPS[first], &SECOND_GROUPS[second]);
+        let axes = fields + usize::from(first.length);
+        let mut put = |at: usize, gather: &Wire| {
+            let mut sent = Wire::default();
+            sent.store(_mm_shuffle_epi8(record, gather.load()));
+            out[at..at + 16].copy_from_slice(&sent.0);
+        };
+        put(fields, &first.gather);
+        put(axes, &second.gather);
+        let out = out.first_chunk().expect("it is longer");
+        self.output.replace(block, at, next, out, axes + usize::from(second.length));
     }
 }
 
+/// Writes what comes before the fields: number, high byte if there is any bit in
+/// it, entity. How many bytes it is.
+#[inline(always)]
+fn write_head(out: &mut [u8], bit5: u8, entity: u16, first: u8, second: u8) -> usize {
+    let wide = u8::from(entity > 255);
+    let high = (first & 15) << 2 | second >> 4 | wide << 6;
+    let has_high = u8::from(high != 0);
+    let low = first >> 4 << 6 | (second & 15) << 1 | bit5 << 5 | has_high;
+    let at = usize::from(has_high);
+    out[0] = 0x80 | low;
+    out[1] = high;
+    out[1 + at] = entity as u8;
+    out[2 + at] = (entity >> 8) as u8;
+    2 + at + usize::from(wide)
+}
+
+/// The bits of a group's index for fields given by the first of their bytes.
+const fn bits<const N: usize>(fields: &[Field], from: usize) -> [u8; N] {
+    let mut bits = [0; N];
+    let mut marks = 0;
+    while marks < N {
+        let mut i = 0;
+        while i < fields.len() {
+            let (at, _, bit) = fields[i];
+            bits[marks] |= ((marks >> (at - from) & 1) << bit) as u8;
+            i += 1;
+        }
+        marks += 1;
+    }
+    bits
+}
+
+static FIRST_BITS: [u8; 32] = bits(&FIRST, 0);
+static SECOND_BITS: [u8; 512] = bits(&SECOND, 5);
+
 /// The normal form of a record: its bytes and how many they are.
-fn encode(base: &Wire, record: &Wire, entity: u16) -> ([u8; 20], usize) {
+fn encode(base: &Wire, record: &Wire, entity: u16) -> ([u8; ROOM], usize) {
     let mut fields = [0; 16];
     let mut length = 0;
     let (mut first, mut second) = (0u8, 0u8);
@@ -219,19 +390,8 @@ fn encode(base: &Wire, record: &Wire, entity: u16) -> ([u8; 20], usize) {
             }
         }
     }
-    let wide = entity > 255;
-    let high = (first & 15) << 2 | second >> 4 | u8::from(wide) << 6;
-    let low = first >> 4 << 6 | (second & 15) << 1 | record.0[14] << 5 | u8::from(high != 0);
-    let mut out = [0; 20];
-    let mut at = 0;
-    let mut put = |byte: u8, sent: bool| {
-        out[at] = byte;
-        at += usize::from(sent);
-    };
-    put(0x80 | low, true);
-    put(high, high != 0);
-    put(entity as u8, true);
-    put((entity >> 8) as u8, wide);
+    let mut out = [0; ROOM];
+    let at = write_head(&mut out, record.0[14], entity, first, second);
     out[at..at + 16].copy_from_slice(&fields);
     (out, at + length)
 }

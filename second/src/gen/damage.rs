@@ -72,7 +72,7 @@ pub fn sizes(rng: &mut Rng) -> Vec<u8> {
         2 => rng.pick(&[8000, 8001, 0, 0x8000_0000, u32::MAX]),
         3 => size + rng.below(100) as u32,
         4 => size.saturating_sub(rng.below(100) as u32),
-        _ => rng.next() as u32,
+        _ => rng.word() as u32,
     };
     bytes[at..at + 4].copy_from_slice(&size.to_le_bytes());
     bytes

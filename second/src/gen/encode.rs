@@ -8,7 +8,7 @@ use crate::write::*;
 /// The normal form of a reading.
 pub fn normal(reading: &Reading) -> Vec<u8> {
     let track = format!("{}\n", reading.track).into_bytes();
-    write_blocks(track, reading, |scene, message| normal_message(scene, message))
+    write_blocks(track, reading, normal_message)
 }
 
 /// A longer way to send the same reading: leading zeros, fields that do not

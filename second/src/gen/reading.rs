@@ -40,7 +40,7 @@ fn angles(rng: &mut Rng) -> [u32; 3] {
         1 => 0x8000_0000,
         2 => 0x7F7F_FFFF,
         3 => 0x8000_0001,
-        _ => (rng.next() as u32) & 0xBFFF_FFFF,
+        _ => (rng.word() as u32) & 0xBFFF_FFFF,
     })
 }
 
@@ -167,14 +167,14 @@ fn short(rng: &mut Rng) -> i16 {
     match rng.below(4) {
         0 => 0,
         1 => rng.pick(&[1, -1, i16::MIN, i16::MAX, 256, -256]),
-        _ => rng.next() as i16,
+        _ => rng.word() as i16,
     }
 }
 
 fn long(rng: &mut Rng) -> i32 {
     match rng.below(3) {
         0 => rng.pick(&[0, -1, i32::MIN, i32::MAX]),
-        _ => rng.next() as i32,
+        _ => rng.word() as i32,
     }
 }
 

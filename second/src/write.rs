@@ -1,7 +1,7 @@
 //! Writing: a message back from its fields as sent, and the normal form.
 
 use crate::message::*;
-use crate::read::{read_message, read_recording};
+use crate::read::{read_message, read_recording, Attempt};
 use crate::scene::*;
 
 /// A message ready to be encoded: masks as sent, strings as bytes.
@@ -40,6 +40,11 @@ pub fn with_bytes(sent: &AsSent, text: &[u8]) -> Option<Encodable> {
 /// The normal form of a recording, or of its whole blocks before a refusal.
 pub fn normal(bytes: &[u8]) -> (Vec<u8>, Option<Refusal>) {
     let attempt = read_recording(bytes);
+    (normal_of(&attempt), attempt.refusal)
+}
+
+/// The normal form of what was read.
+pub fn normal_of(attempt: &Attempt) -> Vec<u8> {
     let mut out = Vec::new();
     let mut scene = Scene::start();
     if let Some(track) = attempt.track {
@@ -53,7 +58,7 @@ pub fn normal(bytes: &[u8]) -> (Vec<u8>, Option<Refusal>) {
         }
         write_block(&mut out, block.angles, &body);
     }
-    (out, attempt.refusal)
+    out
 }
 
 /// Appends a block: size, angles' bits, messages.

@@ -13,8 +13,7 @@ use second::{compare, fast, write};
 /// Holds the fast reader and both its normalisers against the plain reader.
 fn hold_fast_against_plain(name: &str, bytes: &[u8]) -> Attempt {
     let plain = read_recording(bytes);
-    let (normal, refusal) = write::normal(bytes);
-    assert_eq!(refusal, plain.refusal, "{name}");
+    let normal = write::normal_of(&plain);
     match (fast::read(bytes), plain.refusal) {
         (Err(fast), Some(plain)) => assert_eq!(fast, plain, "{name}"),
         (Ok((summary, scene)), None) => {
@@ -27,7 +26,7 @@ fn hold_fast_against_plain(name: &str, bytes: &[u8]) -> Attempt {
     for normaliser in [fast::normal, fast::normal_without_shuffles] {
         let mut out = Vec::new();
         let answer = normaliser(bytes, &mut out);
-        assert_eq!(answer.err(), refusal, "{name}");
+        assert_eq!(answer.err(), plain.refusal, "{name}");
         assert!(out == normal, "{name}: normal forms differ");
     }
     plain
@@ -44,12 +43,12 @@ fn check_expected(input: &Input, attempt: &Attempt) {
 
 /// The laws of an accepted recording.
 fn check_laws(name: &str, bytes: &[u8], attempt: &Attempt) {
-    let (normal, _) = write::normal(bytes);
+    let normal = write::normal_of(attempt);
     assert!(normal.len() <= bytes.len(), "{name}: the normal form is longer");
     let again = read_recording(&normal);
     assert!(again.reading() == attempt.reading(), "{name}: another reading");
     assert!(again.scene == attempt.scene, "{name}: another scene");
-    assert!(write::normal(&normal).0 == normal, "{name}: not idempotent");
+    assert!(write::normal_of(&again) == normal, "{name}: not idempotent");
 }
 
 /// Each message is written back from its fields as sent to its very bytes, in

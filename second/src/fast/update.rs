@@ -7,6 +7,8 @@
 use super::output::{Output, ROOM};
 use super::scene::Wire;
 use super::{good, Bad, Pass, MAX_ENTITY};
+#[cfg(target_arch = "x86_64")]
+use std::arch::x86_64::*;
 
 /// The mask as two indices: bits 6 and 10 to 13, and the axes' bits.
 ///
@@ -102,7 +104,7 @@ impl Shape {
             fields + group(first, &FIRST).length as u32 + group(axes, &SECOND).length as u32;
         Shape(
             length
-                | fields << 8
+                | (fields - 2) << 8
                 | (1 - wide) << 11
                 | (first as u32) << 12
                 | (axes as u32) << 17
@@ -115,19 +117,20 @@ impl Shape {
     /// The length of the whole message.
     #[inline(always)]
     fn length(self) -> usize {
-        (self.0 & 0xFF) as usize
+        (self.0 & 31) as usize
     }
 
     /// Where the fields begin, after an entity of one or two bytes.
     #[inline(always)]
     fn fields(self) -> usize {
-        (self.0 >> 8 & 7) as usize
+        2 + (self.0 >> 8 & 3) as usize
     }
 
-    /// The entity, given the two bytes before the fields.
+    /// The entity, in the byte or the two bytes before the fields.
     #[inline(always)]
-    fn entity(self, before: u16) -> u16 {
-        before >> (self.0 >> 8 & 8)
+    fn entity(self, window: &[u8; WINDOW]) -> u16 {
+        let fields = self.fields();
+        u16::from_le_bytes([window[fields - 2], window[fields - 1]]) >> (self.0 >> 8 & 8)
     }
 
     #[inline(always)]
@@ -171,6 +174,45 @@ const fn shapes() -> [[Shape; 256]; 128] {
 /// So many bytes from the number on may be loaded for an update.
 const WINDOW: usize = 32;
 
+/// The record that an update sends in full or in part, with what it leaves out
+/// from the baseline; bytes 14 and 15 are the baseline's, 0.
+#[cfg(target_arch = "x86_64")]
+#[target_feature(enable = "ssse3")]
+#[inline]
+fn fill(window: &[u8; WINDOW], shape: Shape, base: __m128i) -> __m128i {
+    let (first, axes) = (shape.first(), shape.axes());
+    let (spread_first, spread_axes) = (first.spread.load(), axes.spread.load());
+    let fields = shape.fields();
+    let at_axes = fields + usize::from(first.length & 7);
+    let sent = _mm_or_si128(
+        _mm_shuffle_epi8(load(window, fields), spread_first),
+        _mm_shuffle_epi8(load(window, at_axes), spread_axes),
+    );
+    // A byte is left out where both groups say 80.
+    let left_out = _mm_and_si128(spread_first, spread_axes);
+    let left_out = _mm_cmpgt_epi8(_mm_setzero_si128(), left_out);
+    _mm_or_si128(sent, _mm_and_si128(left_out, base))
+}
+
+#[cfg(target_arch = "x86_64")]
+#[inline(always)]
+fn load(window: &[u8; WINDOW], at: usize) -> __m128i {
+    let piece: &[u8; 16] = window[at..].first_chunk().expect("the window is long enough");
+    // SAFETY: SSE2 is part of x86_64, and the load takes the 16 bytes lent.
+    unsafe { _mm_loadu_si128(piece.as_ptr().cast()) }
+}
+
+/// The fields sent that do not differ from the baseline: a bit for each, at the
+/// first of its bytes.
+#[cfg(target_arch = "x86_64")]
+#[inline(always)]
+fn needless(shape: Shape, record: __m128i, base: __m128i) -> u32 {
+    // SAFETY: SSE2 is part of x86_64.
+    let equal = unsafe { _mm_movemask_epi8(_mm_cmpeq_epi8(record, base)) } as u32;
+    let equal_fields = equal & (equal >> 1 | !PAIRS);
+    equal_fields & u32::from(shape.first().sent | shape.axes().sent)
+}
+
 /// Updates one after the other: where they end, how many they are, and whether
 /// what stands there is an update that is not good.
 pub struct Run {
@@ -208,56 +250,42 @@ impl<O: Output> Pass<'_, O> {
     /// the input.
     #[cfg(target_arch = "x86_64")]
     #[target_feature(enable = "ssse3")]
-    #[inline(never)]
-    fn updates_by_shuffle(&mut self, block: usize, mut at: usize, end: usize) -> Run {
-        use std::arch::x86_64::*;
+    #[inline]
+    fn updates_by_shuffle(&mut self, block: usize, at: usize, end: usize) -> Run {
         let input = self.input;
         let stop = end.min((input.len() + 1).saturating_sub(WINDOW));
         let epoch = i32::from(self.scene.epoch) << 8;
-        let mut count = 0;
-        while at < stop {
-            // SAFETY: `WINDOW` bytes from `at` on are inside the input, and no
-            // load below ends later than 4 + 5 + 16 bytes from `at`.
-            let start = unsafe { input.as_ptr().add(at) };
-            let byte = |i: usize| unsafe { *start.add(i) };
-            let load = |i: usize| unsafe { _mm_loadu_si128(start.add(i).cast()) };
-            if byte(0) < 128 {
+        let mut run = Run { place: at, count: 0, bad: false };
+        while run.place < stop {
+            let at = run.place;
+            // SAFETY: `at` is below `stop`, so the window is inside the input.
+            let window: &[u8; WINDOW] = unsafe { &*input.as_ptr().add(at).cast() };
+            if window[0] < 128 {
                 break;
             }
-            let low = byte(0) & 0x7F;
-            let shape = SHAPES[low as usize][byte(1) as usize];
+            let shape = SHAPES[(window[0] & 0x7F) as usize][window[1] as usize];
             let next = at + shape.length();
-            let fields = shape.fields();
-            let entity = shape.entity(u16::from_le_bytes([byte(fields - 2), byte(fields - 1)]));
+            let entity = shape.entity(window);
             // A byte past the block's end may have been taken for a mask; then
             // `next` is past the end too.
             if shape.reserved() || entity > MAX_ENTITY || next > end {
-                return Run { place: at, count, bad: true };
+                run.bad = true;
+                break;
             }
-            let (first, axes) = (shape.first(), shape.axes());
-            let (spread_first, spread_axes) = (first.spread.load(), axes.spread.load());
-            let sent = _mm_or_si128(
-                _mm_shuffle_epi8(load(fields), spread_first),
-                _mm_shuffle_epi8(load(fields + usize::from(first.length)), spread_axes),
-            );
-            let left_out = _mm_and_si128(spread_first, spread_axes);
-            let left_out = _mm_cmpgt_epi8(_mm_setzero_si128(), left_out);
             let base = self.scene.baselines[entity as usize].load();
-            let record = _mm_or_si128(sent, _mm_and_si128(left_out, base));
-            let last = i32::from(low >> 5 & 1) | epoch;
+            let record = fill(window, shape, base);
+            let last = i32::from(window[0] >> 5 & 1) | epoch;
             self.scene.records[entity as usize].store(_mm_insert_epi16::<7>(record, last));
             if O::WRITES {
-                let equal = _mm_movemask_epi8(_mm_cmpeq_epi8(record, base)) as u32;
-                let equal_fields = equal & (equal >> 1 | !PAIRS);
-                let needless = equal_fields & u32::from(first.sent | axes.sent);
+                let needless = needless(shape, record, base);
                 if needless | shape.needless_head(entity) != 0 {
                     self.rewrite_by_shuffle(block, at, next, entity, needless);
                 }
             }
-            at = next;
-            count += 1;
+            run.place = next;
+            run.count += 1;
         }
-        Run { place: at, count, bad: false }
+        run
     }
 
     /// The same a field at a time, for other processors and the last bytes.
@@ -317,7 +345,6 @@ impl<O: Output> Pass<'_, O> {
         entity: u16,
         needless: u32,
     ) {
-        use std::arch::x86_64::*;
         let low = self.input[at] & 0x7F;
         let high = if low & 1 != 0 { self.input[at + 1] } else { 0 };
         let (first, second) = groups(low, high);

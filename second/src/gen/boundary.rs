@@ -23,6 +23,7 @@ pub fn cases() -> Vec<Input> {
     cases.name_counts();
     cases.statics();
     cases.entities();
+    cases.sound_entities();
     cases.players();
     cases.stats_and_styles();
     cases.temporaries();
@@ -331,6 +332,10 @@ impl Cases {
                 5,
             );
         }
+        self.good("update of entity 0 and 255 in one byte", &[0x80, 0, 0x80, 255]);
+    }
+
+    fn sound_entities(&mut self) {
         for (head, rest) in [(&[6, 0][..], 7), (&[16], 0)] {
             for word in [0, 7, 448 << 3, 448 << 3 | 7, 449 << 3, 0x7FFF, 0x8000, 0xFFFFu16] {
                 let message = zeros(&[head, &word.to_le_bytes()].concat(), rest);
@@ -341,7 +346,6 @@ impl Cases {
                 }
             }
         }
-        self.good("update of entity 0 and 255 in one byte", &[0x80, 0, 0x80, 255]);
     }
 
     fn players(&mut self) {

@@ -1,0 +1,96 @@
+-- The scene that code holds, as the definitions' one: signed numbers by their bits, entities and clientdata in wire order.
+use mathlib.Core.List.{List, [], _∷_, _++_, map}
+use mathlib.Core.Bool.{Bool, cond}
+use mathlib.Core.Option.{Option, none, some}
+use Prim.Native.Nat.{ℕ}
+use mir.Val.{ofZ}
+use mir.Syntax.{w16, w32}
+use Rattle.dem.specs.Bytes.{bitOf}
+use Rattle.dem.specs.Layout.{Value, number, numbers}
+use Rattle.dem.specs.Scene.{PlayerLine as Line, Scene as Described}
+use Rattle.message.specs.Values.{lookValues, poseValues, motionValues, armsValues, suppliesValues, long}
+use Rattle.scene.specs.declared.Baseline.{Baseline}
+use Rattle.scene.specs.declared.Record.{Record}
+use Rattle.scene.specs.declared.Client.{Client}
+use Rattle.scene.specs.declared.PlayerLine.{PlayerLine}
+use Rattle.scene.specs.declared.Rest.{Rest}
+use Rattle.scene.specs.declared.Scene.{Scene}
+
+abbrev pub baselineValues : Baseline → List Value
+baselineValues b = lookValues (b .look) ++ poseValues (b .pose)
+
+abbrev pub recordValues : Record → List Value
+recordValues r = number (bitOf (r .bit5)) ∷ (lookValues (r .look) ++ (number (r .effects) ∷ poseValues (r .pose)))
+
+abbrev pub clientValues : Client → List Value
+clientValues c =
+    number (bitOf (c .ground)) ∷ number (bitOf (c .water))
+    ∷ (motionValues (c .motion) ++ (long (c .items) ∷ (armsValues (c .arms) ++ suppliesValues (c .supplies))))
+
+abbrev pub baselineNumbers : Baseline → List ℕ
+baselineNumbers b = numbers (baselineValues b)
+
+abbrev pub recordNumbers : Record → List ℕ
+recordNumbers r = numbers (recordValues r)
+
+abbrev pub lineOf : PlayerLine → Line
+lineOf p = record { frags = ofZ w16 (p .frags); colours = p .colours }
+
+abbrev pub timeOf : Bool → ℕ → Option ℕ
+timeOf timed time = cond timed (some time) none
+
+-- The scene of these tables and this rest.
+unfoldable pub sceneWith : List (List ℕ) → List (List ℕ) → List Bool → Rest → Described
+sceneWith baselines records present x =
+    record {
+      baselines = baselines;
+      records = records;
+      present = present;
+      stats = map (ofZ w32) (x .stats);
+      client = numbers (clientValues (x .client));
+      view = x .view .0;
+      pause = x .pause;
+      statics = x .statics;
+      limit = x .limit;
+      time = timeOf (x .timed) (x .time);
+      ended = x .ended;
+      players = map lineOf (x .players);
+    }
+
+abbrev pub sceneOf : Scene → Described
+sceneOf s = sceneWith (map baselineNumbers (s .baselines)) (map recordNumbers (s .records)) (s .present) (s .rest)
+
+-- A scene with other tables.
+abbrev pub withTables : List (List ℕ) → List (List ℕ) → List Bool → Described → Described
+withTables baselines records present s =
+    record {
+      baselines = baselines;
+      records = records;
+      present = present;
+      stats = s .stats;
+      client = s .client;
+      view = s .view;
+      pause = s .pause;
+      statics = s .statics;
+      limit = s .limit;
+      time = s .time;
+      ended = s .ended;
+      players = s .players;
+    }
+
+abbrev pub withStats : List ℕ → Described → Described
+withStats stats s =
+    record {
+      baselines = s .baselines;
+      records = s .records;
+      present = s .present;
+      stats = stats;
+      client = s .client;
+      view = s .view;
+      pause = s .pause;
+      statics = s .statics;
+      limit = s .limit;
+      time = s .time;
+      ended = s .ended;
+      players = s .players;
+    }

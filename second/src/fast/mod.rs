@@ -10,6 +10,8 @@ mod client;
 mod cold;
 mod output;
 mod scene;
+#[cfg(target_arch = "x86_64")]
+mod shuffle;
 mod strings;
 mod update;
 

@@ -1,7 +1,8 @@
 //! What the pass hands on: nothing, or the normal form.
 
-/// Room beyond the normal form, which is never longer than the input.
-pub const SLACK: usize = 64;
+/// Room beyond the normal form, which is never longer than the input: enough for
+/// what is asked for ahead, so that the output is never moved.
+pub const SLACK: usize = SHORT + 2 * ROOM;
 /// The messages that may not be normal are no longer than this.
 pub const ROOM: usize = 32;
 /// So much unchanged input is left to stand before it is copied; small enough

@@ -1,9 +1,136 @@
 // Strings, and serverinfo's two lists of names, at a cursor.
 ghost use mathlib.Core.Path.{_≡_};
+ghost use mathlib.Core.List.{[]};
+ghost use Prim.Native.Nat.{_+_, _≤_};
+ghost use lib.ListN.{length};
+ghost use Rattle.dem.specs.Limits.{nameLimit};
+ghost use Rattle.dem.specs.Bytes.{free};
+ghost use Rattle.dem.specs.Layout.{done};
+ghost use Rattle.dem.specs.Message.{names};
+ghost use Rattle.wire.specs.Cursors.{gotten, stringAt, parseAt, textIn};
+ghost use Rattle.strings.specs.Names.{namesIn};
+ghost use Rattle.strings.specs.Places.{roomAt, noZero, someText, noText};
+use wire::Cursor;
+use wire::Text;
+use wire::TextAt;
 
-// Keeps the crate in place until it has functions.
-fn keep(x: u8) -> u8
-    ensures { λ r. ⌜ r ≡ x ⌝ }
+// Bytes of a string, with its zero.
+const STRING_LIMIT: usize = 2047;
+
+// Names in each list, without the empty one that closes it.
+const NAME_LIMIT: usize = 255;
+
+// The bytes that a string may take, with its zero: those from its start to the end, and at most its limit.
+fn room_at(end: usize, start: usize) -> usize
+    ensures { λ r. ⌜ r ≡ roomAt end start ⌝ }
 {
-    x
+    if end <= start {
+        0
+    } else if end - start <= STRING_LIMIT {
+        end - start
+    } else {
+        STRING_LIMIT
+    }
+}
+
+// The refusal of a string that takes all its room without a zero.
+fn no_zero(room: usize) -> u8
+    ensures { λ r. ⌜ r ≡ noZero room ⌝ }
+{
+    if room == STRING_LIMIT { 7 } else { 5 }
+}
+
+// A text, and the cursor behind it.
+fn some_text(start: usize, len: usize, at: usize) -> TextAt
+    ensures { λ r. ⌜ r ≡ someText start len at ⌝ }
+{
+    TextAt {
+        text: Text { start, len },
+        cursor: Cursor { at, refusal: 0 },
+    }
+}
+
+// A refusal, and no text.
+fn no_text(at: usize, refusal: u8) -> TextAt
+    ensures { λ r. ⌜ r ≡ noText at refusal ⌝ }
+{
+    TextAt {
+        text: Text { start: 0, len: 0 },
+        cursor: Cursor { at, refusal },
+    }
+}
+
+// A string at the cursor, tested byte by byte.
+pub fn read_text(s: &[u8], c: Cursor) -> TextAt
+    ensures { λ r. ⌜ gotten (now (s .entry)) (textIn (now (s .entry)) (r .text)) (r .cursor) ≡ stringAt (now (s .entry)) c free ⌝ }
+    ensures within { λ r. ⌜ (r .cursor .refusal ≡ 0 → r .text .start + r .text .len + 1 ≤ length (now (s .entry))) ⌝ }
+{
+    let start = c.at;
+    let refusal = c.refusal;
+    if refusal != 0 {
+        return no_text(start, refusal);
+    }
+    let room = room_at(s.len(), start);
+    let mut n = 0;
+    while n < room {
+        let b = s[start + n];
+        if b == 0 {
+            return some_text(start, n, start + n + 1);
+        }
+        if b == 255 {
+            return no_text(start, 7);
+        }
+        n += 1;
+    }
+    no_text(start, no_zero(room))
+}
+
+// Serverinfo's two lists of names with their closing empty names, as one place. A refused byte and a 256th name end both at once.
+pub fn read_names(s: &[u8], c: Cursor) -> TextAt
+    ensures { λ r. ⌜ gotten (now (s .entry)) (namesIn [] (textIn (now (s .entry)) (r .text))) (r .cursor) ≡ parseAt (now (s .entry)) c (names nameLimit (names nameLimit done)) ⌝ }
+    ensures within { λ r. ⌜ r .text .start + r .text .len ≤ length (now (s .entry)) ⌝ }
+{
+    let start = c.at;
+    let mut refusal = c.refusal;
+    if refusal != 0 {
+        return no_text(start, refusal);
+    }
+    let mut i = start;
+    let mut lists: usize = 0;
+    'lists: while lists < 2 {
+        let mut names = 0;
+        'names: loop {
+            let room = room_at(s.len(), i);
+            let mut n = 0;
+            'bytes: loop {
+                if n == room {
+                    refusal = no_zero(room);
+                    break 'lists;
+                }
+                let b = s[i + n];
+                if b == 255 {
+                    refusal = 7;
+                    break 'lists;
+                }
+                n += 1;
+                if b == 0 {
+                    break 'bytes;
+                }
+            }
+            i += n;
+            if n == 1 {
+                break 'names;
+            }
+            if names == NAME_LIMIT {
+                refusal = 9;
+                break 'lists;
+            }
+            names += 1;
+        }
+        lists += 1;
+    }
+    if refusal != 0 {
+        return no_text(start, refusal);
+    }
+    some_text(start, i - start, i)
 }

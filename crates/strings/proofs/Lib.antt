@@ -1,0 +1,3 @@
+pub mod StringLaws
+pub mod NameLaws
+pub mod NameLoops

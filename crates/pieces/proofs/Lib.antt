@@ -1,0 +1,2 @@
+pub mod UnsignedLaws
+pub mod RoomLaws

@@ -1,0 +1,23 @@
+-- `pieces::from_i8` meets its contract.
+-- Assumes nothing.
+use mathlib.Core.Path.{refl, ap, _∙_}
+use mir.Syntax.{w8}
+use borrow.Author.Needs.{needs}
+use Rattle.wire.proofs.SignedLaws.{same-bits}
+use Rattle.pieces.specs.Bytes.{numberPiece}
+use Rattle.pieces.proofs.from_i8.Statement.{statement}
+use Rattle.pieces.proofs.from_i8.Tie as tie
+
+unsigned8-requires : tie.Need-unsigned8-requires
+unsigned8-requires c κs = search needs
+
+from-u8-requires : tie.Need-from-u8-requires
+from-u8-requires c κs = search needs
+
+returns : tie.Need-returns
+returns c =
+    c .from-u8 .ensures
+    ∙ ap (numberPiece 1) (c .before .unsigned8 .ensures ∙ same-bits w8 _ _ (c .before .before .fits .z) refl)
+
+pub from-i8-spec : {M : Type 1} → statement M
+from-i8-spec = tie.close (tie.spec unsigned8-requires from-u8-requires returns)

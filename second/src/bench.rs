@@ -53,7 +53,7 @@ fn speed(bytes: usize, mut run: impl FnMut() -> bool) -> Speed {
 pub fn heading() -> String {
     format!(
         "{:<16} {:>10} {:>10} {:>10} {:>12} {:>12}",
-        "input", "bytes", "read best", "median", "normal best", "median"
+        "MB/s", "bytes", "read best", "median", "normal best", "median"
     )
 }
 

@@ -11,7 +11,7 @@ use lib.Dec.{ltb}
 use lib.IntN.{ℤ, pos, negsuc, _+ℤ_}
 use lib.ListN.{length, set, getD, length-map, List·getD-map}
 use lib.Seq.{set-out}
-use mir.Syntax.{w16, w32}
+use mir.Syntax.{w32}
 use mir.Val.{SFits, ofZ}
 use Rattle.dem.proofs.ListLaws.{map-set}
 use Rattle.dem.specs.Scene.{PlayerLine, Scene}

@@ -10,7 +10,6 @@ use lib.ListN.{length, length-map}
 use Rattle.dem.specs.Scene.{inRange, timeInRange}
 use Rattle.dem.proofs.RangeLaws.{time-bits}
 use Rattle.scene.specs.Views.{sceneWith, timeOf, lineOf}
-use Rattle.scene.specs.declared.PlayerLine.{PlayerLine}
 use Rattle.scene.specs.declared.Rest.{Rest}
 
 -- An array's length, as owning it tells it.

@@ -1,5 +1,5 @@
 -- The scene that code holds, as the definitions' one: signed numbers by their bits, entities and clientdata in wire order.
-use mathlib.Core.List.{List, [], _∷_, _++_, map}
+use mathlib.Core.List.{List, _∷_, _++_, map}
 use mathlib.Core.Bool.{Bool, cond}
 use mathlib.Core.Option.{Option, none, some}
 use Prim.Native.Nat.{ℕ}
@@ -8,10 +8,11 @@ use mir.Syntax.{w16, w32}
 use Rattle.dem.specs.Bytes.{bitOf}
 use Rattle.dem.specs.Layout.{Value, number, numbers}
 use Rattle.dem.specs.Scene.{PlayerLine as Line, Scene as Described}
-use Rattle.message.specs.Values.{lookValues, poseValues, motionValues, armsValues, suppliesValues, long}
+use Rattle.message.specs.Values.{lookValues, poseValues, motionValues, armsValues, suppliesValues, vectorValues, long}
 use Rattle.scene.specs.declared.Baseline.{Baseline}
 use Rattle.scene.specs.declared.Record.{Record}
 use Rattle.scene.specs.declared.Client.{Client}
+use Rattle.scene.specs.declared.FilledSound.{FilledSound}
 use Rattle.scene.specs.declared.PlayerLine.{PlayerLine}
 use Rattle.scene.specs.declared.Rest.{Rest}
 use Rattle.scene.specs.declared.Scene.{Scene}
@@ -26,6 +27,11 @@ abbrev pub clientValues : Client → List Value
 clientValues c =
     number (bitOf (c .ground)) ∷ number (bitOf (c .water))
     ∷ (motionValues (c .motion) ++ (long (c .items) ∷ (armsValues (c .arms) ++ suppliesValues (c .supplies))))
+
+abbrev pub filledSoundValues : FilledSound → List Value
+filledSoundValues s =
+    number (s .volume) ∷ number (s .attenuation) ∷ number (s .channel) ∷ number (s .entity .0) ∷ number (s .sound)
+    ∷ vectorValues (s .origin)
 
 abbrev pub baselineNumbers : Baseline → List ℕ
 baselineNumbers b = numbers (baselineValues b)

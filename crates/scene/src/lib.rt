@@ -1,21 +1,29 @@
 // The scene: what all messages so far lead to.
 ghost use mathlib.Core.Path.{_≡_};
 ghost use Rattle.dem.specs.Scene.{cleared, inRange};
-ghost use Rattle.scene.specs.Views.{sceneOf, sceneWith, withTables, withStats};
+ghost use Rattle.scene.specs.Views.{sceneOf, sceneWith, withTables, withStats, baselineNumbers, recordValues, clientValues, filledSoundValues};
 ghost use mathlib.Core.List.{List, [], _∷_, map};
-ghost use mathlib.Core.Bool.{Bool};
-ghost use Prim.Native.Nat.{ℕ, _<_};
+ghost use mathlib.Core.Bool.{Bool, cond};
+ghost use Prim.Native.Nat.{ℕ, _<_, _/_, _%_};
+ghost use lib.ListN.{take, drop};
 ghost use mir.Val.{ofZ};
 ghost use mir.Syntax.{w16, w32};
 ghost use Rattle.dem.specs.Kind;
-ghost use Rattle.dem.specs.Layout.{number};
-ghost use Rattle.dem.specs.Message.{apply, raise};
+ghost use Rattle.dem.specs.Layout.{number, tail};
+ghost use Rattle.dem.specs.Bytes.{isSet, bit};
+ghost use Rattle.dem.specs.Masked.{fillSlots};
+ghost use Rattle.dem.specs.Message.{apply, raise, updateSlots, updateMask, clientSlots, fillUpdate, fillClient, fillSound};
+ghost use Rattle.message.specs.Values.{lookValues, poseValues, motionValues, armsValues, soundValues, updateValues, clientValues as sentClientValues};
 use message::Arms;
+use message::Clientdata;
 use message::Entity;
 use message::Look;
 use message::Motion;
 use message::Pose;
+use message::Sound;
 use message::Supplies;
+use message::Update;
+use message::Vector;
 
 pub struct Baseline {
     pub look: Look,
@@ -37,6 +45,16 @@ pub struct Client {
     pub items: i32,
     pub arms: Arms,
     pub supplies: Supplies,
+}
+
+// A sound filled in: it has no mask.
+pub struct FilledSound {
+    pub volume: u8,
+    pub attenuation: u8,
+    pub channel: u8,
+    pub entity: Entity,
+    pub sound: u8,
+    pub origin: Vector,
 }
 
 pub struct PlayerLine {
@@ -233,4 +251,171 @@ fn with_colours(x: Rest, p: usize, v: u8) -> Rest
         y.players[p] = changed;
     }
     y
+}
+
+// ---- filling in: a field as sent where the mask's bit of this weight is set, or else its default
+
+fn pick(mask: u16, weight: u16, sent: u8, other: u8) -> u8
+    requires { ⌜ 0 < weight ⌝ }
+    ensures { λ r. ⌜ r ≡ cond (isSet (mask / weight % 2)) sent other ⌝ }
+{
+    if wire::has(mask, weight) {
+        return sent;
+    }
+    other
+}
+
+fn pick_char(mask: u16, weight: u16, sent: i8, other: i8) -> i8
+    requires { ⌜ 0 < weight ⌝ }
+    ensures { λ r. ⌜ r ≡ cond (isSet (mask / weight % 2)) sent other ⌝ }
+{
+    if wire::has(mask, weight) {
+        return sent;
+    }
+    other
+}
+
+fn pick_short(mask: u16, weight: u16, sent: i16, other: i16) -> i16
+    requires { ⌜ 0 < weight ⌝ }
+    ensures { λ r. ⌜ r ≡ cond (isSet (mask / weight % 2)) sent other ⌝ }
+{
+    if wire::has(mask, weight) {
+        return sent;
+    }
+    other
+}
+
+fn widened(x: u8) -> u16
+    ensures { λ r. ⌜ r ≡ x ⌝ }
+{
+    x as u16
+}
+
+fn fill_look(low: u16, high: u16, sent: Look, b: Baseline) -> Look
+    ensures { λ r. ⌜ lookValues r ≡ fillSlots (take 4 (updateSlots (baselineNumbers b))) (updateMask low high) (lookValues sent) ⌝ }
+{
+    let other = b.look;
+    let model = pick(high, 4, sent.model, other.model);
+    let frame = pick(low, 64, sent.frame, other.frame);
+    let colormap = pick(high, 8, sent.colormap, other.colormap);
+    let skin = pick(high, 16, sent.skin, other.skin);
+    Look {
+        model,
+        frame,
+        colormap,
+        skin,
+    }
+}
+
+fn fill_pose(low: u16, high: u16, sent: Pose, b: Baseline) -> Pose
+    ensures { λ r. ⌜ poseValues r ≡ fillSlots (drop 5 (updateSlots (baselineNumbers b))) (updateMask low high) (poseValues sent) ⌝ }
+{
+    let other = b.pose;
+    let x = pick_short(low, 2, sent.x, other.x);
+    let angle0 = pick_char(high, 1, sent.angle0, other.angle0);
+    let y = pick_short(low, 4, sent.y, other.y);
+    let angle1 = pick_char(low, 16, sent.angle1, other.angle1);
+    let z = pick_short(low, 8, sent.z, other.z);
+    let angle2 = pick_char(high, 2, sent.angle2, other.angle2);
+    Pose {
+        x,
+        angle0,
+        y,
+        angle1,
+        z,
+        angle2,
+    }
+}
+
+// What an update does not send comes from its entity's baseline, effects 0.
+pub fn fill_update(u: Update, b: Baseline) -> Record
+    ensures { λ r. ⌜ number Kind.update ∷ number (u .entity .0) ∷ recordValues r ≡ fillUpdate (baselineNumbers b) (u .number) (tail (updateValues u)) ⌝ }
+{
+    let low = widened(u.number);
+    let high = widened(u.high);
+    let bit5 = wire::has(low, 32);
+    let look = fill_look(low, high, u.look, b);
+    let effects = pick(high, 32, u.effects, 0);
+    let pose = fill_pose(low, high, u.pose, b);
+    Record {
+        bit5,
+        look,
+        effects,
+        pose,
+    }
+}
+
+fn fill_motion(mask: u16, sent: Motion) -> Motion
+    ensures { λ r. ⌜ motionValues r ≡ fillSlots (take 8 clientSlots) (bit mask) (motionValues sent) ⌝ }
+{
+    let view_height = pick_char(mask, 1, sent.view_height, 22);
+    let pitch = pick_char(mask, 2, sent.pitch, 0);
+    let punch0 = pick_char(mask, 4, sent.punch0, 0);
+    let velocity0 = pick_char(mask, 32, sent.velocity0, 0);
+    let punch1 = pick_char(mask, 8, sent.punch1, 0);
+    let velocity1 = pick_char(mask, 64, sent.velocity1, 0);
+    let punch2 = pick_char(mask, 16, sent.punch2, 0);
+    let velocity2 = pick_char(mask, 128, sent.velocity2, 0);
+    Motion {
+        view_height,
+        pitch,
+        punch0,
+        velocity0,
+        punch1,
+        velocity1,
+        punch2,
+        velocity2,
+    }
+}
+
+fn fill_arms(mask: u16, sent: Arms) -> Arms
+    ensures { λ r. ⌜ armsValues r ≡ fillSlots (drop 9 clientSlots) (bit mask) (armsValues sent) ⌝ }
+{
+    let weapon_frame = pick(mask, 4096, sent.weapon_frame, 0);
+    let armour = pick(mask, 8192, sent.armour, 0);
+    let weapon_model = pick(mask, 16384, sent.weapon_model, 0);
+    Arms {
+        weapon_frame,
+        armour,
+        weapon_model,
+    }
+}
+
+// View height 22, other fields 0, items always as sent.
+pub fn fill_client(c: Clientdata) -> Client
+    ensures { λ r. ⌜ number Kind.clientdata ∷ clientValues r ≡ fillClient (sentClientValues c) ⌝ }
+{
+    let mask = c.mask;
+    let ground = wire::has(mask, 1024);
+    let water = wire::has(mask, 2048);
+    let motion = fill_motion(mask, c.motion);
+    let arms = fill_arms(mask, c.arms);
+    let supplies = c.supplies;
+    Client {
+        ground,
+        water,
+        motion,
+        items: c.items,
+        arms,
+        supplies,
+    }
+}
+
+// Volume 255, attenuation 64.
+pub fn fill_sound(s: Sound) -> FilledSound
+    ensures { λ r. ⌜ number Kind.sound ∷ filledSoundValues r ≡ fillSound (soundValues s) ⌝ }
+{
+    let mask = widened(s.mask);
+    let volume = pick(mask, 1, s.volume, 255);
+    let attenuation = pick(mask, 2, s.attenuation, 64);
+    let entity = s.entity;
+    let origin = s.origin;
+    FilledSound {
+        volume,
+        attenuation,
+        channel: s.channel,
+        entity,
+        sound: s.sound,
+        origin,
+    }
 }

@@ -1,7 +1,6 @@
 -- `scene::raised` meets its contract: one more in 32 bits is one more by the bits, and the highest is followed by the lowest.
 -- Assumes nothing.
 use mathlib.Core.Path.{ap, _∙_, sym}
-use native.Mathlib.Omega.{arith}
 use Prim.Native.Nat.{ℕ, _+_, _%_, _^_}
 use lib.IntN.{pos}
 use mir.Syntax.{w32}

@@ -1,12 +1,69 @@
 // Readers of the messages without a mask, as sent, from behind their number on.
 ghost use mathlib.Core.Path.{_≡_};
-ghost use Rattle.wire.specs.Cursors.{gotten};
+ghost use mathlib.Core.Bool.{_&&_, not};
+ghost use mir.Val.{ofZ};
+ghost use mir.Syntax.{w32};
+ghost use Rattle.dem.specs.Limits.{protocol};
+ghost use Rattle.dem.specs.Message.{below, equals, isPoint, notBefore};
+ghost use Rattle.dem.specs.Scene.{isTime};
+ghost use Rattle.wire.specs.Cursors.{gotten, numberAt};
 ghost use Rattle.message.specs.Values.{valuesOf};
 ghost use Rattle.parts.specs.Kinds.{contextOf, kindAt};
+use message::Entity;
 use message::Message;
+use message::Particle;
+use message::Player;
+use message::Temporary;
 use parts::Context;
 use parts::MessageAt;
+use wire::Byte;
 use wire::Cursor;
+use wire::Long;
+
+// Document 01's P.
+fn read_player(s: &[u8], c: Cursor, limit: u8) -> Byte
+    ensures { λ r. ⌜ gotten (now (s .entry)) (r .value) (r .cursor) ≡ numberAt (now (s .entry)) c 1 (below limit) ⌝ }
+{
+    let b = wire::read_byte(s, c);
+    let value = b.value;
+    let cursor = wire::refuse_if(b.cursor, limit <= value, 9);
+    Byte { value, cursor }
+}
+
+// A protocol number, which is 15.
+fn read_protocol(s: &[u8], c: Cursor) -> Long
+    ensures { λ r. ⌜ gotten (now (s .entry)) (ofZ w32 (r .value)) (r .cursor) ≡ numberAt (now (s .entry)) c 4 (equals protocol) ⌝ }
+{
+    let n = wire::read_number(s, c, 4);
+    let bits = n.value;
+    let cursor = wire::refuse_if(n.cursor, bits != 15, 9);
+    let value = wire::signed32(bits);
+    Long { value, cursor }
+}
+
+// Sign set, or exponent 255, or bits smaller than those of the time before.
+fn is_wrong_time(bits: u32, x: Context) -> bool
+    ensures { λ r. ⌜ r ≡ not (isTime bits && notBefore (contextOf x .time) bits) ⌝ }
+{
+    let timed = x.timed;
+    let before = x.time;
+    if timed {
+        if bits < before {
+            return true;
+        }
+    }
+    2139095040 <= bits
+}
+
+// The temporary entities of one place, of those of a type 0 to 11; the others go from one place to another.
+fn is_point(kind: u8) -> bool
+    ensures { λ r. ⌜ r ≡ isPoint kind ⌝ }
+{
+    match kind {
+        0..=4 | 7 | 8 | 10 | 11 => true,
+        _ => false,
+    }
+}
 
 pub fn read_stat(s: &[u8], c: Cursor, x: Context) -> MessageAt
     ensures { λ r. ⌜ gotten (now (s .entry)) (valuesOf (now (s .entry)) (r .message)) (r .cursor) ≡ kindAt (now (s .entry)) c (contextOf x) 3 ⌝ }
@@ -18,6 +75,242 @@ pub fn read_stat(s: &[u8], c: Cursor, x: Context) -> MessageAt
     let cursor = v.cursor;
     MessageAt {
         message: Message::Stat(index, v.value),
+        cursor,
+    }
+}
+
+pub fn read_version(s: &[u8], c: Cursor, x: Context) -> MessageAt
+    ensures { λ r. ⌜ gotten (now (s .entry)) (valuesOf (now (s .entry)) (r .message)) (r .cursor) ≡ kindAt (now (s .entry)) c (contextOf x) 4 ⌝ }
+{
+    let v = read_protocol(s, c);
+    let cursor = v.cursor;
+    MessageAt {
+        message: Message::Version(v.value),
+        cursor,
+    }
+}
+
+pub fn read_view(s: &[u8], c: Cursor, x: Context) -> MessageAt
+    ensures { λ r. ⌜ gotten (now (s .entry)) (valuesOf (now (s .entry)) (r .message)) (r .cursor) ≡ kindAt (now (s .entry)) c (contextOf x) 5 ⌝ }
+{
+    let e = parts::read_entity(s, c);
+    let entity = Entity(e.value);
+    let cursor = e.cursor;
+    MessageAt {
+        message: Message::View(entity),
+        cursor,
+    }
+}
+
+pub fn read_time(s: &[u8], c: Cursor, x: Context) -> MessageAt
+    ensures { λ r. ⌜ gotten (now (s .entry)) (valuesOf (now (s .entry)) (r .message)) (r .cursor) ≡ kindAt (now (s .entry)) c (contextOf x) 7 ⌝ }
+{
+    let n = wire::read_number(s, c, 4);
+    let bits = n.value;
+    let wrong = is_wrong_time(bits, x);
+    let cursor = wire::refuse_if(n.cursor, wrong, 10);
+    MessageAt {
+        message: Message::Time(bits),
+        cursor,
+    }
+}
+
+pub fn read_angles(s: &[u8], c: Cursor, x: Context) -> MessageAt
+    ensures { λ r. ⌜ gotten (now (s .entry)) (valuesOf (now (s .entry)) (r .message)) (r .cursor) ≡ kindAt (now (s .entry)) c (contextOf x) 10 ⌝ }
+{
+    let a = wire::read_char(s, c);
+    let b = wire::read_char(s, a.cursor);
+    let d = wire::read_char(s, b.cursor);
+    let cursor = d.cursor;
+    MessageAt {
+        message: Message::SetAngles(a.value, b.value, d.value),
+        cursor,
+    }
+}
+
+pub fn read_frags(s: &[u8], c: Cursor, x: Context) -> MessageAt
+    ensures { λ r. ⌜ gotten (now (s .entry)) (valuesOf (now (s .entry)) (r .message)) (r .cursor) ≡ kindAt (now (s .entry)) c (contextOf x) 14 ⌝ }
+{
+    let p = read_player(s, c, x.limit);
+    let f = wire::read_short(s, p.cursor);
+    let player = Player(p.value);
+    let cursor = f.cursor;
+    MessageAt {
+        message: Message::Frags(player, f.value),
+        cursor,
+    }
+}
+
+pub fn read_stopsound(s: &[u8], c: Cursor, x: Context) -> MessageAt
+    ensures { λ r. ⌜ gotten (now (s .entry)) (valuesOf (now (s .entry)) (r .message)) (r .cursor) ≡ kindAt (now (s .entry)) c (contextOf x) 16 ⌝ }
+{
+    let w = wire::read_word(s, c);
+    let both = w.value;
+    let cursor = wire::refuse_if(w.cursor, 448 < both / 8, 9);
+    let entity = Entity(both / 8);
+    MessageAt {
+        message: Message::Stopsound((both % 8) as u8, entity),
+        cursor,
+    }
+}
+
+pub fn read_colours(s: &[u8], c: Cursor, x: Context) -> MessageAt
+    ensures { λ r. ⌜ gotten (now (s .entry)) (valuesOf (now (s .entry)) (r .message)) (r .cursor) ≡ kindAt (now (s .entry)) c (contextOf x) 17 ⌝ }
+{
+    let p = read_player(s, c, x.limit);
+    let b = wire::read_byte(s, p.cursor);
+    let player = Player(p.value);
+    let cursor = b.cursor;
+    MessageAt {
+        message: Message::Colours(player, b.value),
+        cursor,
+    }
+}
+
+pub fn read_particle(s: &[u8], c: Cursor, x: Context) -> MessageAt
+    ensures { λ r. ⌜ gotten (now (s .entry)) (valuesOf (now (s .entry)) (r .message)) (r .cursor) ≡ kindAt (now (s .entry)) c (contextOf x) 18 ⌝ }
+{
+    let o = parts::read_vector(s, c);
+    let a = wire::read_char(s, o.cursor);
+    let b = wire::read_char(s, a.cursor);
+    let d = wire::read_char(s, b.cursor);
+    let n = wire::read_byte(s, d.cursor);
+    let k = wire::read_byte(s, n.cursor);
+    let origin = o.vector;
+    let particle = Particle {
+        origin,
+        direction0: a.value,
+        direction1: b.value,
+        direction2: d.value,
+        count: n.value,
+        colour: k.value,
+    };
+    let cursor = k.cursor;
+    MessageAt {
+        message: Message::Particle(particle),
+        cursor,
+    }
+}
+
+pub fn read_damage(s: &[u8], c: Cursor, x: Context) -> MessageAt
+    ensures { λ r. ⌜ gotten (now (s .entry)) (valuesOf (now (s .entry)) (r .message)) (r .cursor) ≡ kindAt (now (s .entry)) c (contextOf x) 19 ⌝ }
+{
+    let a = wire::read_byte(s, c);
+    let b = wire::read_byte(s, a.cursor);
+    let o = parts::read_vector(s, b.cursor);
+    let origin = o.vector;
+    let cursor = o.cursor;
+    MessageAt {
+        message: Message::Damage(a.value, b.value, origin),
+        cursor,
+    }
+}
+
+pub fn read_static(s: &[u8], c: Cursor, x: Context) -> MessageAt
+    ensures { λ r. ⌜ gotten (now (s .entry)) (valuesOf (now (s .entry)) (r .message)) (r .cursor) ≡ kindAt (now (s .entry)) c (contextOf x) 20 ⌝ }
+{
+    let l = parts::read_look(s, c);
+    let p = parts::read_pose(s, l.cursor);
+    let look = l.look;
+    let pose = p.pose;
+    let cursor = p.cursor;
+    MessageAt {
+        message: Message::Static(look, pose),
+        cursor,
+    }
+}
+
+pub fn read_baseline(s: &[u8], c: Cursor, x: Context) -> MessageAt
+    ensures { λ r. ⌜ gotten (now (s .entry)) (valuesOf (now (s .entry)) (r .message)) (r .cursor) ≡ kindAt (now (s .entry)) c (contextOf x) 22 ⌝ }
+{
+    let e = parts::read_entity(s, c);
+    let l = parts::read_look(s, e.cursor);
+    let p = parts::read_pose(s, l.cursor);
+    let entity = Entity(e.value);
+    let look = l.look;
+    let pose = p.pose;
+    let cursor = p.cursor;
+    MessageAt {
+        message: Message::Baseline(entity, look, pose),
+        cursor,
+    }
+}
+
+pub fn read_temporary(s: &[u8], c: Cursor, x: Context) -> MessageAt
+    ensures { λ r. ⌜ gotten (now (s .entry)) (valuesOf (now (s .entry)) (r .message)) (r .cursor) ≡ kindAt (now (s .entry)) c (contextOf x) 23 ⌝ }
+{
+    let k = wire::read_byte(s, c);
+    let kind = k.value;
+    let ruled = wire::refuse_if(k.cursor, 11 < kind, 9);
+    if is_point(kind) {
+        let o = parts::read_vector(s, ruled);
+        let origin = o.vector;
+        let cursor = o.cursor;
+        let point = Temporary::Point(kind, origin);
+        return MessageAt {
+            message: Message::Temporary(point),
+            cursor,
+        };
+    }
+    let e = parts::read_entity(s, ruled);
+    let a = parts::read_vector(s, e.cursor);
+    let b = parts::read_vector(s, a.cursor);
+    let entity = Entity(e.value);
+    let start = a.vector;
+    let end = b.vector;
+    let cursor = b.cursor;
+    let line = Temporary::Line(kind, entity, start, end);
+    MessageAt {
+        message: Message::Temporary(line),
+        cursor,
+    }
+}
+
+pub fn read_pause(s: &[u8], c: Cursor, x: Context) -> MessageAt
+    ensures { λ r. ⌜ gotten (now (s .entry)) (valuesOf (now (s .entry)) (r .message)) (r .cursor) ≡ kindAt (now (s .entry)) c (contextOf x) 24 ⌝ }
+{
+    let b = wire::read_byte(s, c);
+    let cursor = b.cursor;
+    MessageAt {
+        message: Message::Pause(b.value),
+        cursor,
+    }
+}
+
+pub fn read_signon(s: &[u8], c: Cursor, x: Context) -> MessageAt
+    ensures { λ r. ⌜ gotten (now (s .entry)) (valuesOf (now (s .entry)) (r .message)) (r .cursor) ≡ kindAt (now (s .entry)) c (contextOf x) 25 ⌝ }
+{
+    let b = wire::read_byte(s, c);
+    let cursor = b.cursor;
+    MessageAt {
+        message: Message::Signon(b.value),
+        cursor,
+    }
+}
+
+pub fn read_static_sound(s: &[u8], c: Cursor, x: Context) -> MessageAt
+    ensures { λ r. ⌜ gotten (now (s .entry)) (valuesOf (now (s .entry)) (r .message)) (r .cursor) ≡ kindAt (now (s .entry)) c (contextOf x) 29 ⌝ }
+{
+    let o = parts::read_vector(s, c);
+    let n = wire::read_byte(s, o.cursor);
+    let v = wire::read_byte(s, n.cursor);
+    let a = wire::read_byte(s, v.cursor);
+    let origin = o.vector;
+    let cursor = a.cursor;
+    MessageAt {
+        message: Message::StaticSound(origin, n.value, v.value, a.value),
+        cursor,
+    }
+}
+
+pub fn read_track(s: &[u8], c: Cursor, x: Context) -> MessageAt
+    ensures { λ r. ⌜ gotten (now (s .entry)) (valuesOf (now (s .entry)) (r .message)) (r .cursor) ≡ kindAt (now (s .entry)) c (contextOf x) 32 ⌝ }
+{
+    let a = wire::read_byte(s, c);
+    let b = wire::read_byte(s, a.cursor);
+    let cursor = b.cursor;
+    MessageAt {
+        message: Message::Track(a.value, b.value),
         cursor,
     }
 }

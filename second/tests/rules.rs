@@ -230,6 +230,53 @@ fn minus_zero_is_zero_and_angles_keep_their_bits() {
     assert_eq!(normal[2..], bytes[3..]);
 }
 
+/// A record has a line if it is present or not all zero; a baseline if it is not
+/// all zero.
+#[test]
+fn entity_lines_of_the_scene_text() {
+    // Entities 5 and 6, time, then 7; a zero baseline of 9, and one of 8.
+    let body = hex("82 05 08 02 80 06 07 00 00 80 3F 80 07 \
+                    16 09 00 00 00 00 00 00 00 00 00 00 00 00 00 00 \
+                    16 08 00 00 00 00 00 00 00 00 00 00 00 FF FF 80");
+    let text = second::text::scene_text(&read_recording(&recording(&[&body])));
+    let lines: Vec<&str> = text.lines().skip_while(|line| !line.starts_with("player 15")).collect();
+    let expected = [
+        "player 15 frags=0 colours=0",
+        "baseline 8 model=0 frame=0 colormap=0 skin=0 x=0 angle0=0 y=0 angle1=0 z=-1 angle2=-128",
+        "record 5 present=0 model=0 frame=0 colormap=0 skin=0 effects=0 x=520 angle0=0 y=0 \
+         angle1=0 z=0 angle2=0 bit5=0",
+        "record 7 present=1 model=0 frame=0 colormap=0 skin=0 effects=0 x=0 angle0=0 y=0 \
+         angle1=0 z=0 angle2=0 bit5=0",
+    ];
+    assert_eq!(lines, expected);
+}
+
+/// All other lines, with every value its own.
+#[test]
+fn scene_text_with_every_value() {
+    let mut body = server_info(3);
+    for message in [
+        "03 1F FE FF FF FF",
+        "05 C0 01",
+        "0E 02 FB FF",
+        "11 02 44",
+        "14 00 00 00 00 00 00 00 00 00 00 00 00 00",
+        "18 09",
+        "0F FF 7E 01 02 03 04 05 06 07 08 11 22 33 44 15 16 17 9C FF 18 19 1A 1B 1C 1D",
+    ] {
+        body.extend(hex(message));
+    }
+    let text = second::text::scene_text(&read_recording(&recording(&[&body, &[]])));
+    let expected = "accepted\ntrack 0\nblocks 2\nmessages 8\nended 0\ntime none\nlimit 3\n\
+        view 448\npause 9\nstatics 1\n\
+        stats -100 0 23 24 22 21 25 26 27 28 29 0 0 0 0 0 0 0 0 0 0 0 0 0 0 0 0 0 0 0 0 -2\n\
+        clientdata view_height=1 pitch=2 punch0=3 velocity0=4 punch1=5 velocity1=6 punch2=7 \
+        velocity2=8 items=1144201745 ground=1 water=1 weapon_frame=21 armour=22 \
+        weapon_model=23 health=-100 ammo=24 count0=25 count1=26 count2=27 count3=28 weapon=29\n\
+        player 0 frags=0 colours=0\nplayer 1 frags=0 colours=0\nplayer 2 frags=-5 colours=68\n";
+    assert_eq!(text[..expected.len()], *expected);
+}
+
 // Writing
 
 fn print(at: usize, len: usize) -> AsSent {

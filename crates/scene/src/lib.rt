@@ -9,10 +9,10 @@ ghost use lib.ListN.{take, drop};
 ghost use mir.Val.{ofZ};
 ghost use mir.Syntax.{w16, w32};
 ghost use Rattle.dem.specs.Kind;
-ghost use Rattle.dem.specs.Layout.{number, tail};
+ghost use Rattle.dem.specs.Layout.{number, numbers, tail};
 ghost use Rattle.dem.specs.Bytes.{isSet, bit};
 ghost use Rattle.dem.specs.Masked.{fillSlots};
-ghost use Rattle.dem.specs.Message.{apply, raise, updateSlots, updateMask, clientSlots, fillUpdate, fillClient, fillSound};
+ghost use Rattle.dem.specs.Message.{apply, raise, clientStats, updateSlots, updateMask, clientSlots, fillUpdate, fillClient, fillSound};
 ghost use Rattle.message.specs.Values.{lookValues, poseValues, motionValues, armsValues, soundValues, updateValues, clientValues as sentClientValues};
 use message::Arms;
 use message::Clientdata;
@@ -418,4 +418,37 @@ pub fn fill_sound(s: Sound) -> FilledSound
         sound: s.sound,
         origin,
     }
+}
+
+// ---- clientdata's effect
+
+// Stats 0, health, and 2 to 10: weapon model, ammo, armour, weapon frame, four counts, weapon.
+fn client_stats(stats: [i32; 32], c: Client) -> [i32; 32]
+    ensures { λ r. ⌜ map (ofZ w32) r ≡ clientStats (map (ofZ w32) stats) (numbers (clientValues c)) ⌝ }
+{
+    let arms = c.arms;
+    let supplies = c.supplies;
+    let mut s = stats;
+    s[0] = supplies.health as i32;
+    s[2] = arms.weapon_model as i32;
+    s[3] = supplies.ammo as i32;
+    s[4] = arms.armour as i32;
+    s[5] = arms.weapon_frame as i32;
+    s[6] = supplies.count0 as i32;
+    s[7] = supplies.count1 as i32;
+    s[8] = supplies.count2 as i32;
+    s[9] = supplies.count3 as i32;
+    s[10] = supplies.weapon as i32;
+    s
+}
+
+fn with_client(x: Rest, c: Client) -> Rest
+    ensures { λ r. ⌜ ((b e : List (List ℕ)) (p : List Bool) → sceneWith b e p r ≡ apply (sceneWith b e p x) (number Kind.clientdata ∷ clientValues c)) ⌝ }
+{
+    let mut y = x;
+    let before = x.stats;
+    let stats = client_stats(before, c);
+    y.stats = stats;
+    y.client = c;
+    y
 }

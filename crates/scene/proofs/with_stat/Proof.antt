@@ -25,7 +25,7 @@ returns c b e p =
     let x = c .before .args .x in
     let v = c .before .args .v in
     ap (λ s. withStats s (sceneWith b e p x))
-    (set-seen (ofZ w32) (x .stats) (c .before .args .i) (ofZ w32 v) _ (same-bits w32 v _ (record { sfits = c .before .good .1 .1 .0 }) refl))
+    (set-seen (ofZ w32) (x .stats) (c .before .args .i) _ _ (same-bits w32 v _ (record { sfits = c .before .good .1 .1 .0 }) refl))
 
 returns-2 : tie.Need-returns-2
 unfolding sceneWith apply

@@ -3,8 +3,8 @@ ghost use mathlib.Core.Path.{_≡_};
 ghost use mathlib.Core.Bool.{_&&_, not};
 ghost use mir.Val.{ofZ};
 ghost use mir.Syntax.{w32};
-ghost use Rattle.dem.specs.Limits.{protocol};
-ghost use Rattle.dem.specs.Message.{below, equals, isPoint, notBefore};
+ghost use Rattle.dem.specs.Limits.{playerCount, protocol};
+ghost use Rattle.dem.specs.Message.{below, between, equals, isPoint, notBefore};
 ghost use Rattle.dem.specs.Scene.{isTime};
 ghost use Rattle.wire.specs.Cursors.{gotten, numberAt};
 ghost use Rattle.message.specs.Values.{valuesOf};
@@ -13,6 +13,7 @@ use message::Entity;
 use message::Message;
 use message::Particle;
 use message::Player;
+use message::Serverinfo;
 use message::Temporary;
 use parts::Context;
 use parts::MessageAt;
@@ -39,6 +40,17 @@ fn read_protocol(s: &[u8], c: Cursor) -> Long
     let cursor = wire::refuse_if(n.cursor, bits != 15, 9);
     let value = wire::signed32(bits);
     Long { value, cursor }
+}
+
+// A player limit, which is 1 to 16.
+fn read_limit(s: &[u8], c: Cursor) -> Byte
+    ensures { λ r. ⌜ gotten (now (s .entry)) (r .value) (r .cursor) ≡ numberAt (now (s .entry)) c 1 (between 1 playerCount) ⌝ }
+{
+    let b = wire::read_byte(s, c);
+    let value = b.value;
+    let ruled = wire::refuse_if(b.cursor, value < 1, 9);
+    let cursor = wire::refuse_if(ruled, 16 < value, 9);
+    Byte { value, cursor }
 }
 
 // Sign set, or exponent 255, or bits smaller than those of the time before.
@@ -115,6 +127,30 @@ pub fn read_time(s: &[u8], c: Cursor, x: Context) -> MessageAt
     }
 }
 
+pub fn read_print(s: &[u8], c: Cursor, x: Context) -> MessageAt
+    ensures { λ r. ⌜ gotten (now (s .entry)) (valuesOf (now (s .entry)) (r .message)) (r .cursor) ≡ kindAt (now (s .entry)) c (contextOf x) 8 ⌝ }
+{
+    let t = strings::read_text(s, c);
+    let text = t.text;
+    let cursor = t.cursor;
+    MessageAt {
+        message: Message::Print(text),
+        cursor,
+    }
+}
+
+pub fn read_stufftext(s: &[u8], c: Cursor, x: Context) -> MessageAt
+    ensures { λ r. ⌜ gotten (now (s .entry)) (valuesOf (now (s .entry)) (r .message)) (r .cursor) ≡ kindAt (now (s .entry)) c (contextOf x) 9 ⌝ }
+{
+    let t = strings::read_text(s, c);
+    let text = t.text;
+    let cursor = t.cursor;
+    MessageAt {
+        message: Message::Stufftext(text),
+        cursor,
+    }
+}
+
 pub fn read_angles(s: &[u8], c: Cursor, x: Context) -> MessageAt
     ensures { λ r. ⌜ gotten (now (s .entry)) (valuesOf (now (s .entry)) (r .message)) (r .cursor) ≡ kindAt (now (s .entry)) c (contextOf x) 10 ⌝ }
 {
@@ -124,6 +160,59 @@ pub fn read_angles(s: &[u8], c: Cursor, x: Context) -> MessageAt
     let cursor = d.cursor;
     MessageAt {
         message: Message::SetAngles(a.value, b.value, d.value),
+        cursor,
+    }
+}
+
+pub fn read_serverinfo(s: &[u8], c: Cursor, x: Context) -> MessageAt
+    ensures { λ r. ⌜ gotten (now (s .entry)) (valuesOf (now (s .entry)) (r .message)) (r .cursor) ≡ kindAt (now (s .entry)) c (contextOf x) 11 ⌝ }
+{
+    let p = read_protocol(s, c);
+    let l = read_limit(s, p.cursor);
+    let g = wire::read_byte(s, l.cursor);
+    let m = strings::read_text(s, g.cursor);
+    let n = strings::read_names(s, m.cursor);
+    let map = m.text;
+    let names = n.text;
+    let info = Serverinfo {
+        protocol: p.value,
+        limit: l.value,
+        game: g.value,
+        map,
+        names,
+    };
+    let cursor = n.cursor;
+    MessageAt {
+        message: Message::Serverinfo(info),
+        cursor,
+    }
+}
+
+pub fn read_style(s: &[u8], c: Cursor, x: Context) -> MessageAt
+    ensures { λ r. ⌜ gotten (now (s .entry)) (valuesOf (now (s .entry)) (r .message)) (r .cursor) ≡ kindAt (now (s .entry)) c (contextOf x) 12 ⌝ }
+{
+    let i = wire::read_byte(s, c);
+    let index = i.value;
+    let ruled = wire::refuse_if(i.cursor, 63 < index, 9);
+    let t = strings::read_text(s, ruled);
+    let text = t.text;
+    let cursor = t.cursor;
+    MessageAt {
+        message: Message::Style(index, text),
+        cursor,
+    }
+}
+
+pub fn read_name(s: &[u8], c: Cursor, x: Context) -> MessageAt
+    ensures { λ r. ⌜ gotten (now (s .entry)) (valuesOf (now (s .entry)) (r .message)) (r .cursor) ≡ kindAt (now (s .entry)) c (contextOf x) 13 ⌝ }
+{
+    let p = read_player(s, c, x.limit);
+    let t = strings::read_text(s, p.cursor);
+    let player = Player(p.value);
+    let text = t.text;
+    let cursor = t.cursor;
+    MessageAt {
+        message: Message::Name(player, text),
         cursor,
     }
 }
@@ -288,6 +377,18 @@ pub fn read_signon(s: &[u8], c: Cursor, x: Context) -> MessageAt
     }
 }
 
+pub fn read_centerprint(s: &[u8], c: Cursor, x: Context) -> MessageAt
+    ensures { λ r. ⌜ gotten (now (s .entry)) (valuesOf (now (s .entry)) (r .message)) (r .cursor) ≡ kindAt (now (s .entry)) c (contextOf x) 26 ⌝ }
+{
+    let t = strings::read_text(s, c);
+    let text = t.text;
+    let cursor = t.cursor;
+    MessageAt {
+        message: Message::Centerprint(text),
+        cursor,
+    }
+}
+
 pub fn read_static_sound(s: &[u8], c: Cursor, x: Context) -> MessageAt
     ensures { λ r. ⌜ gotten (now (s .entry)) (valuesOf (now (s .entry)) (r .message)) (r .cursor) ≡ kindAt (now (s .entry)) c (contextOf x) 29 ⌝ }
 {
@@ -303,6 +404,18 @@ pub fn read_static_sound(s: &[u8], c: Cursor, x: Context) -> MessageAt
     }
 }
 
+pub fn read_finale(s: &[u8], c: Cursor, x: Context) -> MessageAt
+    ensures { λ r. ⌜ gotten (now (s .entry)) (valuesOf (now (s .entry)) (r .message)) (r .cursor) ≡ kindAt (now (s .entry)) c (contextOf x) 31 ⌝ }
+{
+    let t = strings::read_text(s, c);
+    let text = t.text;
+    let cursor = t.cursor;
+    MessageAt {
+        message: Message::Finale(text),
+        cursor,
+    }
+}
+
 pub fn read_track(s: &[u8], c: Cursor, x: Context) -> MessageAt
     ensures { λ r. ⌜ gotten (now (s .entry)) (valuesOf (now (s .entry)) (r .message)) (r .cursor) ≡ kindAt (now (s .entry)) c (contextOf x) 32 ⌝ }
 {
@@ -311,6 +424,18 @@ pub fn read_track(s: &[u8], c: Cursor, x: Context) -> MessageAt
     let cursor = b.cursor;
     MessageAt {
         message: Message::Track(a.value, b.value),
+        cursor,
+    }
+}
+
+pub fn read_cutscene(s: &[u8], c: Cursor, x: Context) -> MessageAt
+    ensures { λ r. ⌜ gotten (now (s .entry)) (valuesOf (now (s .entry)) (r .message)) (r .cursor) ≡ kindAt (now (s .entry)) c (contextOf x) 34 ⌝ }
+{
+    let t = strings::read_text(s, c);
+    let text = t.text;
+    let cursor = t.cursor;
+    MessageAt {
+        message: Message::Cutscene(text),
         cursor,
     }
 }

@@ -1,3 +1,4 @@
 pub mod Ranges
 pub mod Changes
 pub mod Filling
+pub mod Applied

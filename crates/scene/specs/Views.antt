@@ -1,6 +1,7 @@
 -- The scene that code holds, as the definitions' one: signed numbers by their bits, entities and clientdata in wire order.
+use mathlib.Core.Path.{_≡_}
 use mathlib.Core.List.{List, _∷_, _++_, map}
-use mathlib.Core.Bool.{Bool, cond}
+use mathlib.Core.Bool.{Bool, true, cond}
 use mathlib.Core.Option.{Option, none, some}
 use Prim.Native.Nat.{ℕ}
 use mir.Val.{ofZ}
@@ -8,6 +9,10 @@ use mir.Syntax.{w16, w32}
 use Rattle.dem.specs.Bytes.{bitOf}
 use Rattle.dem.specs.Layout.{Value, number, numbers}
 use Rattle.dem.specs.Scene.{PlayerLine as Line, Scene as Described}
+use Rattle.dem.specs.Message.{isUpdate}
+use Rattle.message.specs.declared.Message.{Message}
+use Rattle.message.specs.declared.Message.the-variants as M
+use Rattle.message.specs.declared.Update.{Update}
 use Rattle.message.specs.Values.{lookValues, poseValues, motionValues, armsValues, suppliesValues, vectorValues, long}
 use Rattle.scene.specs.declared.Baseline.{Baseline}
 use Rattle.scene.specs.declared.Record.{Record}
@@ -100,3 +105,7 @@ withStats stats s =
       ended = s .ended;
       players = s .players;
     }
+
+-- What holds of each message that was read: if it is an update, its number says so.
+abbrev pub Numbered : Message → Type 0
+Numbered m = (u : Update) → m ≡ M.Update u → isUpdate (u .number) ≡ true

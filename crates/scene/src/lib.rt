@@ -1,7 +1,7 @@
 // The scene: what all messages so far lead to.
 ghost use mathlib.Core.Path.{_≡_};
 ghost use Rattle.dem.specs.Scene.{cleared, inRange};
-ghost use Rattle.scene.specs.Views.{sceneOf, sceneWith, withTables, withStats, baselineNumbers, recordValues, clientValues, filledSoundValues};
+ghost use Rattle.scene.specs.Views.{Numbered, sceneOf, sceneWith, withTables, withStats, baselineNumbers, recordValues, clientValues, filledSoundValues};
 ghost use mathlib.Core.List.{List, [], _∷_, map};
 ghost use mathlib.Core.Bool.{Bool, cond};
 ghost use Prim.Native.Nat.{ℕ, _<_, _/_, _%_};
@@ -12,13 +12,16 @@ ghost use Rattle.dem.specs.Kind;
 ghost use Rattle.dem.specs.Layout.{number, numbers, tail};
 ghost use Rattle.dem.specs.Bytes.{isSet, bit};
 ghost use Rattle.dem.specs.Masked.{fillSlots};
-ghost use Rattle.dem.specs.Message.{apply, raise, clientStats, updateSlots, updateMask, clientSlots, fillUpdate, fillClient, fillSound};
-ghost use Rattle.message.specs.Values.{lookValues, poseValues, motionValues, armsValues, soundValues, updateValues, clientValues as sentClientValues};
+ghost use Rattle.dem.specs.Message.{apply, raise, clientStats, fill, updateSlots, updateMask, clientSlots, fillUpdate, fillClient, fillSound};
+ghost use Rattle.wire.specs.declared.Text.{Text};
+ghost use Rattle.message.specs.Values.{valuesBy, lookValues, poseValues, motionValues, armsValues, soundValues, updateValues, clientValues as sentClientValues};
 use message::Arms;
 use message::Clientdata;
 use message::Entity;
 use message::Look;
+use message::Message;
 use message::Motion;
+use message::Player;
 use message::Pose;
 use message::Sound;
 use message::Supplies;
@@ -198,12 +201,13 @@ pub fn in_range(x: Rest) -> bool
 
 // ---- what messages do to the rest
 
-fn with_stat(x: Rest, i: usize, v: i32) -> Rest
+fn with_stat(x: Rest, i: u8, v: i32) -> Rest
     ensures { λ r. ⌜ ((b e : List (List ℕ)) (p : List Bool) → sceneWith b e p r ≡ apply (sceneWith b e p x) (number Kind.stat ∷ number i ∷ number (ofZ w32 v) ∷ [])) ⌝ }
 {
     let mut y = x;
-    if i < 32 {
-        y.stats[i] = v;
+    let at = i as usize;
+    if at < 32 {
+        y.stats[at] = v;
     }
     y
 }
@@ -223,32 +227,34 @@ fn raised(x: Rest, i: usize) -> Rest
     y
 }
 
-fn with_frags(x: Rest, p: usize, v: i16) -> Rest
-    ensures { λ r. ⌜ ((b e : List (List ℕ)) (m : List Bool) → sceneWith b e m r ≡ apply (sceneWith b e m x) (number Kind.frags ∷ number p ∷ number (ofZ w16 v) ∷ [])) ⌝ }
+fn with_frags(x: Rest, p: Player, v: i16) -> Rest
+    ensures { λ r. ⌜ ((b e : List (List ℕ)) (m : List Bool) → sceneWith b e m r ≡ apply (sceneWith b e m x) (number Kind.frags ∷ number (p .0) ∷ number (ofZ w16 v) ∷ [])) ⌝ }
 {
     let mut y = x;
-    if p < 16 {
-        let line = x.players[p];
+    let at = p.0 as usize;
+    if at < 16 {
+        let line = x.players[at];
         let changed = PlayerLine {
             frags: v,
             colours: line.colours,
         };
-        y.players[p] = changed;
+        y.players[at] = changed;
     }
     y
 }
 
-fn with_colours(x: Rest, p: usize, v: u8) -> Rest
-    ensures { λ r. ⌜ ((b e : List (List ℕ)) (m : List Bool) → sceneWith b e m r ≡ apply (sceneWith b e m x) (number Kind.colours ∷ number p ∷ number v ∷ [])) ⌝ }
+fn with_colours(x: Rest, p: Player, v: u8) -> Rest
+    ensures { λ r. ⌜ ((b e : List (List ℕ)) (m : List Bool) → sceneWith b e m r ≡ apply (sceneWith b e m x) (number Kind.colours ∷ number (p .0) ∷ number v ∷ [])) ⌝ }
 {
     let mut y = x;
-    if p < 16 {
-        let line = x.players[p];
+    let at = p.0 as usize;
+    if at < 16 {
+        let line = x.players[at];
         let changed = PlayerLine {
             frags: line.frags,
             colours: v,
         };
-        y.players[p] = changed;
+        y.players[at] = changed;
     }
     y
 }
@@ -451,4 +457,45 @@ fn with_client(x: Rest, c: Client) -> Rest
     y.stats = stats;
     y.client = c;
     y
+}
+
+// ---- what any message does to the rest
+
+// What an update or a baseline does is to the tables.
+pub fn apply_rest(x: Rest, m: Message) -> Rest
+    requires { ⌜ x .statics < 255 ⌝ }
+    ensures { λ r. ⌜ ((b e : List (List ℕ)) (p : List Bool) (t : Text → List ℕ) → Numbered m → sceneWith [] [] [] r ≡ withTables [] [] [] (apply (sceneWith b e p x) (fill (sceneWith b e p x) (valuesBy t m)))) ⌝ }
+{
+    let mut y = x;
+    match m {
+        Message::Disconnect => {
+            y.ended = true;
+            y
+        }
+        Message::Stat(i, v) => with_stat(x, i, v),
+        Message::View(e) => {
+            y.view = e;
+            y
+        }
+        Message::Time(t) => {
+            y.timed = true;
+            y.time = t;
+            y
+        }
+        Message::Serverinfo(s) => cleared_rest(s.limit),
+        Message::Frags(p, v) => with_frags(x, p, v),
+        Message::Clientdata(c) => with_client(x, fill_client(c)),
+        Message::Colours(p, v) => with_colours(x, p, v),
+        Message::Static(_, _) => {
+            y.statics = x.statics + 1;
+            y
+        }
+        Message::Pause(v) => {
+            y.pause = v;
+            y
+        }
+        Message::Killed => raised(x, 14),
+        Message::Secret => raised(x, 13),
+        _ => x,
+    }
 }

@@ -15,6 +15,9 @@ use borrow.Author.Needs.{needs}
 use Rattle.scene.proofs.with_colours.Statement.{statement}
 use Rattle.scene.proofs.with_colours.Tie as tie
 
+cast-at : tie.Need-cast-at
+cast-at c = search needs
+
 mul-line : tie.Need-mul-line
 mul-line c = search needs
 
@@ -30,8 +33,8 @@ element-set-from-changed c = search needs
 returns : tie.Need-returns
 unfolding sceneWith apply
 returns c b e m =
-    let x = c .before .before .before .args .t1 in
-    let p = c .before .before .before .args .p in
+    let x = c .before .before .before .before .args .t1 in
+    let p = c .before .before .before .before .args .p .0 in
     let z = getD (x .players) p (record { frags = pos 0; colours = 0 }) .frags in
     ap (λ l. withPlayers l (sceneWith b e m x))
     (set-seen lineOf (x .players) p _ _
@@ -41,14 +44,15 @@ returns c b e m =
 returns-2 : tie.Need-returns-2
 unfolding sceneWith apply
 returns-2 c b e m =
-    let x = c .before .args .t1 in
-    let n = length-of _ (x .players) 16 (c .before .good .0 .1 .1 .1 .1 .1 .1 .1 .1 .1 .1 .1 .0 .1 .0 .1) in
-    ap (λ l. withPlayers l (sceneWith b e m x)) (set-past lineOf (x .players) (c .before .args .p) _ (omega (arith, n)))
+    let x = c .before .before .args .t1 in
+    let n = length-of _ (x .players) 16 (c .before .before .good .0 .1 .1 .1 .1 .1 .1 .1 .1 .1 .1 .1 .0 .1 .0 .1) in
+    ap (λ l. withPlayers l (sceneWith b e m x)) (set-past lineOf (x .players) (c .before .before .args .p .0) _ (omega (arith, n)))
 
 pub with-colours-spec : {M : Type 1} → statement M
 with-colours-spec =
     tie.close
     (tie.spec
+    cast-at
     mul-line
     element-copy-out-line
     mul-changed

@@ -1,0 +1,68 @@
+// What a message does to the scene.
+ghost use mathlib.Core.Path.{_≡_};
+ghost use mathlib.Core.List.{[], _∷_, _++_};
+ghost use Prim.Native.Nat.{_≤_};
+ghost use Rattle.dem.specs.Kind;
+ghost use Rattle.dem.specs.Layout.{number};
+ghost use Rattle.dem.specs.Message.{apply, fill};
+ghost use Rattle.message.specs.Values.{lookValues, poseValues, updateValues};
+ghost use Rattle.scene.specs.Views.{sceneOf, baselineNumbers};
+ghost use Rattle.dem.specs.Scene.{baselineAt};
+use message::Entity;
+use message::Look;
+use message::Pose;
+use message::Update;
+use scene::Baseline;
+use scene::Scene;
+
+// The baseline of an entity, all zero past the last.
+fn baseline_of(s: Scene, i: usize) -> Baseline
+    ensures { λ r. ⌜ baselineNumbers r ≡ baselineAt (sceneOf s) i ⌝ }
+{
+    if i < 449 {
+        let b = s.baselines[i];
+        return b;
+    }
+    let look = Look {
+        model: 0,
+        frame: 0,
+        colormap: 0,
+        skin: 0,
+    };
+    let pose = Pose {
+        x: 0,
+        angle0: 0,
+        y: 0,
+        angle1: 0,
+        z: 0,
+        angle2: 0,
+    };
+    Baseline { look, pose }
+}
+
+fn with_baseline(s: Scene, entity: Entity, look: Look, pose: Pose) -> Scene
+    ensures { λ r. ⌜ sceneOf r ≡ apply (sceneOf s) (number Kind.baseline ∷ number (entity .0) ∷ (lookValues look ++ poseValues pose)) ⌝ }
+{
+    let i = entity.0 as usize;
+    let mut y = s;
+    if i < 449 {
+        let b = Baseline { look, pose };
+        y.baselines[i] = b;
+    }
+    y
+}
+
+fn with_update(s: Scene, u: Update) -> Scene
+    ensures { λ r. ⌜ (128 ≤ u .number → sceneOf r ≡ apply (sceneOf s) (fill (sceneOf s) (updateValues u))) ⌝ }
+{
+    let entity = u.entity;
+    let i = entity.0 as usize;
+    let b = baseline_of(s, i);
+    let record = scene::fill_update(u, b);
+    let mut y = s;
+    if i < 449 {
+        y.records[i] = record;
+        y.present[i] = true;
+    }
+    y
+}

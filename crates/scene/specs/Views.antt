@@ -7,16 +7,20 @@ use Prim.Native.Nat.{ℕ}
 use mir.Val.{ofZ}
 use mir.Syntax.{w16, w32}
 use Rattle.dem.specs.Bytes.{bitOf}
+use Rattle.dem.specs.Kind
 use Rattle.dem.specs.Layout.{Value, number, numbers}
-use Rattle.dem.specs.Scene.{PlayerLine as Line, Scene as Described}
+use Rattle.dem.specs.Scene.{PlayerLine as Line, Scene as Described, baselineAt}
 use Rattle.dem.specs.Message.{isUpdate}
+use Rattle.wire.specs.declared.Text.{Text}
 use Rattle.message.specs.declared.Message.{Message}
 use Rattle.message.specs.declared.Message.the-variants as M
 use Rattle.message.specs.declared.Update.{Update}
-use Rattle.message.specs.Values.{lookValues, poseValues, motionValues, armsValues, suppliesValues, vectorValues, long}
+use Rattle.message.specs.Values.{valuesBy, lookValues, poseValues, motionValues, armsValues, suppliesValues, vectorValues, long}
 use Rattle.scene.specs.declared.Baseline.{Baseline}
 use Rattle.scene.specs.declared.Record.{Record}
 use Rattle.scene.specs.declared.Client.{Client}
+use Rattle.scene.specs.declared.Filled.{Filled}
+use Rattle.scene.specs.declared.Filled.the-variants as F
 use Rattle.scene.specs.declared.FilledSound.{FilledSound}
 use Rattle.scene.specs.declared.PlayerLine.{PlayerLine}
 use Rattle.scene.specs.declared.Rest.{Rest}
@@ -37,6 +41,13 @@ abbrev pub filledSoundValues : FilledSound → List Value
 filledSoundValues s =
     number (s .volume) ∷ number (s .attenuation) ∷ number (s .channel) ∷ number (s .entity .0) ∷ number (s .sound)
     ∷ vectorValues (s .origin)
+
+-- A message filled in, whose strings are the bytes that t says.
+abbrev pub filledValues : (Text → List ℕ) → Filled → List Value
+filledValues t (F.Plain m) = valuesBy t m
+filledValues t (F.Sound s) = number Kind.sound ∷ filledSoundValues s
+filledValues t (F.Clientdata c) = number Kind.clientdata ∷ clientValues c
+filledValues t (F.Update e r) = number Kind.update ∷ number (e .0) ∷ recordValues r
 
 abbrev pub baselineNumbers : Baseline → List ℕ
 baselineNumbers b = numbers (baselineValues b)
@@ -109,3 +120,7 @@ withStats stats s =
 -- What holds of each message that was read: if it is an update, its number says so.
 abbrev pub Numbered : Message → Type 0
 Numbered m = (u : Update) → m ≡ M.Update u → isUpdate (u .number) ≡ true
+
+-- This is the baseline that the scene has for the message's entity, if it is an update.
+abbrev pub BaselineOf : Described → Message → Baseline → Type 0
+BaselineOf s m b = (u : Update) → m ≡ M.Update u → baselineAt s (u .entity .0) ≡ baselineNumbers b

@@ -1,7 +1,7 @@
 // The scene: what all messages so far lead to.
 ghost use mathlib.Core.Path.{_≡_};
-ghost use Rattle.dem.specs.Scene.{cleared, inRange};
-ghost use Rattle.scene.specs.Views.{Numbered, sceneOf, sceneWith, withTables, withStats, baselineNumbers, recordValues, clientValues, filledSoundValues};
+ghost use Rattle.dem.specs.Scene.{Scene as Described, cleared, inRange};
+ghost use Rattle.scene.specs.Views.{Numbered, BaselineOf, filledValues, sceneOf, sceneWith, withTables, withStats, baselineNumbers, recordValues, clientValues, filledSoundValues};
 ghost use mathlib.Core.List.{List, [], _∷_, map};
 ghost use mathlib.Core.Bool.{Bool, cond};
 ghost use Prim.Native.Nat.{ℕ, _<_, _/_, _%_};
@@ -58,6 +58,14 @@ pub struct FilledSound {
     pub entity: Entity,
     pub sound: u8,
     pub origin: Vector,
+}
+
+// A message filled in; a plain one is as it was sent.
+pub enum Filled {
+    Plain(Message),
+    Sound(FilledSound),
+    Clientdata(Client),
+    Update(Entity, Record),
 }
 
 pub struct PlayerLine {
@@ -423,6 +431,21 @@ pub fn fill_sound(s: Sound) -> FilledSound
         entity,
         sound: s.sound,
         origin,
+    }
+}
+
+// An update is filled in from the baseline given.
+pub fn fill_message(m: Message, b: Baseline) -> Filled
+    ensures { λ r. ⌜ ((s : Described) (t : Text → List ℕ) → Numbered m → BaselineOf s m b → filledValues t r ≡ fill s (valuesBy t m)) ⌝ }
+{
+    match m {
+        Message::Sound(s) => Filled::Sound(fill_sound(s)),
+        Message::Clientdata(c) => Filled::Clientdata(fill_client(c)),
+        Message::Update(u) => {
+            let entity = u.entity;
+            Filled::Update(entity, fill_update(u, b))
+        }
+        _ => Filled::Plain(m),
     }
 }
 

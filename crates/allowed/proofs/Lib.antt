@@ -1,0 +1,3 @@
+pub mod MaskTests
+pub mod NameTests
+pub mod StringTests

@@ -12,31 +12,34 @@ use lib.IntN.{ℤ, pos, negsuc, _+ℤ_}
 use lib.Signed.{mag}
 use lib.ListN.{length, set, getD, length-map, List·getD-map}
 use lib.Seq.{set-out, sets}
-use mir.Syntax.{w8, w16, w32}
-use mir.Val.{Fits, SFits, ofZ, toZ}
+use mir.Syntax.{w16, w32}
+use mir.Val.{SFits, ofZ, toZ}
 use mir.ValLaws.{ofZ-toZ, toZ-ofZ}
-use Rattle.dem.proofs.ListLaws.{map-set, map-sets}
-use Rattle.dem.specs.Message.{extend}
-use Rattle.wire.proofs.SignedLaws.{same-bits}
+use Rattle.dem.specs.Bytes.{Bytes}
 use Rattle.dem.specs.Scene.{PlayerLine, Scene}
+use Rattle.dem.specs.Message.{extend}
+use Rattle.dem.proofs.ListLaws.{map-set, map-sets}
+use Rattle.wire.proofs.SignedLaws.{same-bits}
 
--- ---- an element set where the scene sees a list through a map
+-- ---- a scene with another part
 
-module _ {A B : Type 0} (f : A → B) (l : List A) (i : ℕ) where
-  pub set-seen : (a : A) (v : B) → f a ≡ v → map f (set l i a) ≡ set (map f l) i v
-  set-seen a v e = map-set f l i a ∙ ap (λ (w : B). set (map f l) i w) e
+abbrev pub withClient : List ℕ → Scene → Scene
+withClient client s =
+    record {
+      baselines = s .baselines;
+      records = s .records;
+      present = s .present;
+      stats = s .stats;
+      client = client;
+      view = s .view;
+      pause = s .pause;
+      statics = s .statics;
+      limit = s .limit;
+      time = s .time;
+      ended = s .ended;
+      players = s .players;
+    }
 
-  -- Past the list's end nothing is set.
-  pub set-past : (v : B) → length l ≤ i → map f l ≡ set (map f l) i v
-  set-past v h = sym (set-out (map f l) i v (omega (arith, length-map l f)))
-
--- What code finds in the list, the scene sees in its own.
-pub seen-at : {A B : Type 0} (f : A → B) (l : List A) (i : ℕ) (d : A) → f (getD l i d) ≡ getD (map f l) i (f d)
-seen-at f l i d = sym (List·getD-map f l i d)
-
--- ---- player lines
-
--- A scene with other lines.
 abbrev pub withPlayers : List PlayerLine → Scene → Scene
 withPlayers players s =
     record {
@@ -53,6 +56,22 @@ withPlayers players s =
       ended = s .ended;
       players = players;
     }
+
+-- ---- an element set where the scene sees a list through a map
+
+module _ {A B : Type 0} (f : A → B) (l : List A) (i : ℕ) where
+  pub set-seen : (a : A) (v : B) → f a ≡ v → map f (set l i a) ≡ set (map f l) i v
+  set-seen a v e = map-set f l i a ∙ ap (λ (w : B). set (map f l) i w) e
+
+  -- Past the list's end nothing is set.
+  pub set-past : (v : B) → length l ≤ i → map f l ≡ set (map f l) i v
+  set-past v h = sym (set-out (map f l) i v (omega (arith, length-map l f)))
+
+-- What code finds in the list, the scene sees in its own.
+pub seen-at : {A B : Type 0} (f : A → B) (l : List A) (i : ℕ) (d : A) → f (getD l i d) ≡ getD (map f l) i (f d)
+seen-at f l i d = sym (List·getD-map f l i d)
+
+-- ---- player lines
 
 pub line-equal : (p q : PlayerLine) → p .frags ≡ q .frags → p .colours ≡ q .colours → p ≡ q
 line-equal p q ef ec = λ i. record { frags = ef i; colours = ec i }
@@ -94,13 +113,10 @@ module _ (z : ℤ) (f : mag z < 32768) where
           let m : ℕ = 65536 - suc n in
           omega (arith, ap (λ (b : Bool). cond b m (m + (2 ^ 32 - 2 ^ 16))) (le-ltb m 32768 (omega arith)))
 
-abbrev pub Bytes : List ℕ → Type 0
-Bytes [] = Unit {0}
-Bytes (n ∷ ns) = Fits w8 n × Bytes ns
-
+-- Bytes, cast, keep their number.
 bytes-bits : (ns : List ℕ) → Bytes ns → map (ofZ w32) (map (toZ w32) ns) ≡ ns
 bytes-bits [] h = refl
-bytes-bits (n ∷ ns) h = λ i. ofZ-toZ w32 n (record { fits = omega (arith, h .0 .fits) }) i ∷ bytes-bits ns (h .1) i
+bytes-bits (n ∷ ns) h = λ i. ofZ-toZ w32 n (record { fits = omega (arith, h .0) }) i ∷ bytes-bits ns (h .1) i
 
 -- Health at stat 0, and bytes from stat 2 on.
 pub client-stats-seen : (l : List ℤ) (z : ℤ) (ns : List ℕ) → mag z < 32768 → Bytes ns

@@ -1,20 +1,20 @@
 // The scene: what all messages so far lead to.
 ghost use mathlib.Core.Path.{_≡_};
-ghost use Rattle.dem.specs.Scene.{Scene as Described, cleared, inRange};
-ghost use Rattle.scene.specs.Views.{Numbered, BaselineOf, filledValues, sceneOf, sceneWith, withTables, withStats, baselineNumbers, recordValues, clientValues, filledSoundValues};
 ghost use mathlib.Core.List.{List, [], _∷_, map};
 ghost use mathlib.Core.Bool.{Bool, cond};
 ghost use Prim.Native.Nat.{ℕ, _<_, _/_, _%_};
 ghost use lib.ListN.{take, drop};
-ghost use mir.Val.{ofZ};
 ghost use mir.Syntax.{w16, w32};
+ghost use mir.Val.{ofZ};
 ghost use Rattle.dem.specs.Kind;
-ghost use Rattle.dem.specs.Layout.{number, numbers, tail};
 ghost use Rattle.dem.specs.Bytes.{isSet, bit};
+ghost use Rattle.dem.specs.Layout.{number, numbers, tail};
 ghost use Rattle.dem.specs.Masked.{fillSlots};
+ghost use Rattle.dem.specs.Scene.{Scene as Described, zeroClientdata, cleared, inRange};
 ghost use Rattle.dem.specs.Message.{apply, raise, clientStats, fill, updateSlots, updateMask, clientSlots, fillUpdate, fillClient, fillSound};
 ghost use Rattle.wire.specs.declared.Text.{Text};
 ghost use Rattle.message.specs.Values.{valuesBy, lookValues, poseValues, motionValues, armsValues, soundValues, updateValues, clientValues as sentClientValues};
+ghost use Rattle.scene.specs.Views.{Numbered, BaselineOf, filledValues, sceneOf, sceneWith, withTables, withStats, baselineNumbers, recordValues, clientValues, filledSoundValues};
 use message::Arms;
 use message::Clientdata;
 use message::Entity;
@@ -131,8 +131,8 @@ pub fn cleared_scene(limit: u8) -> Scene
     }
 }
 
-fn cleared_rest(limit: u8) -> Rest
-    ensures { λ r. ⌜ ((b e : List (List ℕ)) (p : List Bool) → sceneWith b e p r ≡ withTables b e p (cleared limit)) ⌝ }
+fn cleared_client() -> Client
+    ensures { λ r. ⌜ numbers (clientValues r) ≡ zeroClientdata ⌝ }
 {
     let motion = Motion {
         view_height: 0,
@@ -158,21 +158,27 @@ fn cleared_rest(limit: u8) -> Rest
         count3: 0,
         weapon: 0,
     };
-    let client = Client {
+    Client {
         ground: false,
         water: false,
         motion,
         items: 0,
         arms,
         supplies,
-    };
+    }
+}
+
+fn cleared_rest(limit: u8) -> Rest
+    ensures { λ r. ⌜ ((b e : List (List ℕ)) (p : List Bool) → sceneWith b e p r ≡ withTables b e p (cleared limit)) ⌝ }
+{
+    let stats = [0i32; 32];
+    let client = cleared_client();
+    let view = Entity(0);
     let line = PlayerLine {
         frags: 0,
         colours: 0,
     };
-    let stats = [0i32; 32];
     let players = [line; 16];
-    let view = Entity(0);
     Rest {
         stats,
         client,
@@ -205,66 +211,6 @@ pub fn in_range(x: Rest) -> bool
         return x.time < 2139095040;
     }
     true
-}
-
-// ---- what messages do to the rest
-
-fn with_stat(x: Rest, i: u8, v: i32) -> Rest
-    ensures { λ r. ⌜ ((b e : List (List ℕ)) (p : List Bool) → sceneWith b e p r ≡ apply (sceneWith b e p x) (number Kind.stat ∷ number i ∷ number (ofZ w32 v) ∷ [])) ⌝ }
-{
-    let mut y = x;
-    let at = i as usize;
-    if at < 32 {
-        y.stats[at] = v;
-    }
-    y
-}
-
-// One more, from the highest to the lowest.
-fn raised(x: Rest, i: usize) -> Rest
-    requires { ⌜ i < 32 ⌝ }
-    ensures { λ r. ⌜ ((b e : List (List ℕ)) (p : List Bool) → sceneWith b e p r ≡ withStats (raise (map (ofZ w32) (x .stats)) i) (sceneWith b e p x)) ⌝ }
-{
-    let mut y = x;
-    let v = x.stats[i];
-    if v == 2147483647 {
-        y.stats[i] = -2147483648;
-    } else {
-        y.stats[i] = v + 1;
-    }
-    y
-}
-
-fn with_frags(x: Rest, p: Player, v: i16) -> Rest
-    ensures { λ r. ⌜ ((b e : List (List ℕ)) (m : List Bool) → sceneWith b e m r ≡ apply (sceneWith b e m x) (number Kind.frags ∷ number (p .0) ∷ number (ofZ w16 v) ∷ [])) ⌝ }
-{
-    let mut y = x;
-    let at = p.0 as usize;
-    if at < 16 {
-        let line = x.players[at];
-        let changed = PlayerLine {
-            frags: v,
-            colours: line.colours,
-        };
-        y.players[at] = changed;
-    }
-    y
-}
-
-fn with_colours(x: Rest, p: Player, v: u8) -> Rest
-    ensures { λ r. ⌜ ((b e : List (List ℕ)) (m : List Bool) → sceneWith b e m r ≡ apply (sceneWith b e m x) (number Kind.colours ∷ number (p .0) ∷ number v ∷ [])) ⌝ }
-{
-    let mut y = x;
-    let at = p.0 as usize;
-    if at < 16 {
-        let line = x.players[at];
-        let changed = PlayerLine {
-            frags: line.frags,
-            colours: v,
-        };
-        y.players[at] = changed;
-    }
-    y
 }
 
 // ---- filling in: a field as sent where the mask's bit of this weight is set, or else its default
@@ -449,7 +395,65 @@ pub fn fill_message(m: Message, b: Baseline) -> Filled
     }
 }
 
-// ---- clientdata's effect
+// ---- what messages do to the rest
+
+fn with_stat(x: Rest, i: u8, v: i32) -> Rest
+    ensures { λ r. ⌜ ((b e : List (List ℕ)) (p : List Bool) → sceneWith b e p r ≡ apply (sceneWith b e p x) (number Kind.stat ∷ number i ∷ number (ofZ w32 v) ∷ [])) ⌝ }
+{
+    let mut y = x;
+    let at = i as usize;
+    if at < 32 {
+        y.stats[at] = v;
+    }
+    y
+}
+
+// One more, from the highest to the lowest.
+fn raised(x: Rest, i: usize) -> Rest
+    requires { ⌜ i < 32 ⌝ }
+    ensures { λ r. ⌜ ((b e : List (List ℕ)) (p : List Bool) → sceneWith b e p r ≡ withStats (raise (map (ofZ w32) (x .stats)) i) (sceneWith b e p x)) ⌝ }
+{
+    let mut y = x;
+    let v = x.stats[i];
+    if v == 2147483647 {
+        y.stats[i] = -2147483648;
+    } else {
+        y.stats[i] = v + 1;
+    }
+    y
+}
+
+fn with_frags(x: Rest, p: Player, v: i16) -> Rest
+    ensures { λ r. ⌜ ((b e : List (List ℕ)) (m : List Bool) → sceneWith b e m r ≡ apply (sceneWith b e m x) (number Kind.frags ∷ number (p .0) ∷ number (ofZ w16 v) ∷ [])) ⌝ }
+{
+    let mut y = x;
+    let at = p.0 as usize;
+    if at < 16 {
+        let line = x.players[at];
+        let changed = PlayerLine {
+            frags: v,
+            colours: line.colours,
+        };
+        y.players[at] = changed;
+    }
+    y
+}
+
+fn with_colours(x: Rest, p: Player, v: u8) -> Rest
+    ensures { λ r. ⌜ ((b e : List (List ℕ)) (m : List Bool) → sceneWith b e m r ≡ apply (sceneWith b e m x) (number Kind.colours ∷ number (p .0) ∷ number v ∷ [])) ⌝ }
+{
+    let mut y = x;
+    let at = p.0 as usize;
+    if at < 16 {
+        let line = x.players[at];
+        let changed = PlayerLine {
+            frags: line.frags,
+            colours: v,
+        };
+        y.players[at] = changed;
+    }
+    y
+}
 
 // Stats 0, health, and 2 to 10: weapon model, ammo, armour, weapon frame, four counts, weapon.
 fn client_stats(stats: [i32; 32], c: Client) -> [i32; 32]
@@ -482,9 +486,7 @@ fn with_client(x: Rest, c: Client) -> Rest
     y
 }
 
-// ---- what any message does to the rest
-
-// What an update or a baseline does is to the tables.
+// After any message. An update and a baseline change the tables only.
 pub fn apply_rest(x: Rest, m: Message) -> Rest
     requires { ⌜ x .statics < 255 ⌝ }
     ensures { λ r. ⌜ ((b e : List (List ℕ)) (p : List Bool) (t : Text → List ℕ) → Numbered m → sceneWith [] [] [] r ≡ withTables [] [] [] (apply (sceneWith b e p x) (fill (sceneWith b e p x) (valuesBy t m)))) ⌝ }

@@ -75,8 +75,19 @@ returns c =
     let fa = c .before .before .before .before .before .struct-known5 .given in
     let fs = c .struct-known10 .given .1 in
     client-stats-seen (p .stats) (s .health)
-    (a .«weapon_model» ∷ s .ammo ∷ a .armour ∷ a .«weapon_frame» ∷ s .count0 ∷ s .count1 ∷ s .count2 ∷ s .count3 ∷ s .weapon ∷ []) fh
-    (fa .1 .1 .0, (fs .0, (fa .1 .0, (fa .0, fs .1))))
+    (a .«weapon_model» ∷ s .ammo ∷ a .armour ∷ a .«weapon_frame» ∷ s .count0 ∷ s .count1 ∷ s .count2 ∷ s .count3 ∷ s .weapon ∷ []) fh (
+      fa .1 .1 .0 .fits,
+      (
+        fs .0 .fits,
+        (
+          fa .1 .0 .fits,
+          (
+            fa .0 .fits,
+            (fs .1 .0 .fits, (fs .1 .1 .0 .fits, (fs .1 .1 .1 .0 .fits, (fs .1 .1 .1 .1 .0 .fits, (fs .1 .1 .1 .1 .1 .0 .fits, tt))))),
+          ),
+        ),
+      ),
+    )
 
 pub client-stats-spec : {M : Type 1} → statement M
 client-stats-spec =

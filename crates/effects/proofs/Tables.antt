@@ -5,15 +5,22 @@ use mathlib.Core.List.{List, [], _∷_, map}
 use mathlib.Core.Bool.{Bool, true, false}
 use Prim.Native.Nat.{ℕ, _≤_, _<_}
 use borrow.Author.Tests.{le-leb}
-use lib.ListN.{set, getD}
+use lib.ListN.{set, replicate}
 use Rattle.dem.specs.Kind
 use Rattle.dem.specs.Layout.{Value, number, numbers, tail}
 use Rattle.dem.specs.Scene.{Scene, Baseline, baselineAt}
-use Rattle.dem.specs.Message.{Message, fillUpdate, fill, apply}
+use Rattle.dem.specs.Message.{fillUpdate, fill, apply}
 use Rattle.dem.proofs.MessageLaws.{fill-update}
-use Rattle.message.specs.Values.{updateValues}
+use Rattle.message.specs.Values.{updateValues, valuesBy}
 use Rattle.message.specs.declared.Update.{Update}
-use Rattle.scene.specs.Views.{recordValues, withTables}
+use denote.Enum.Declared.{tagOf}
+use types.Run.{OneOf, miss}
+use Rattle.wire.specs.declared.Text.{Text}
+use Rattle.message.proofs.Message as Messages
+use Rattle.message.specs.declared.Message.{Message as Sent}
+use Rattle.message.specs.declared.Message.the-variants as M
+use Rattle.scene.specs.Views.{recordValues, sceneWith, withTables}
+use Rattle.scene.specs.declared.Rest.{Rest}
 use Rattle.scene.specs.declared.Record.{Record}
 
 -- What an update does, by the record that it is filled in to.
@@ -25,3 +32,69 @@ unfolding apply
 update-applied s u r b h e f =
     ap (apply s) (f ∙ ap (λ (x : Baseline). fillUpdate x (u .number) (tail (updateValues u))) e
     ∙ sym (fill-update s (u .number) (tail (updateValues u)) (le-leb 128 (u .number) h)))
+
+-- A message that a pattern matched.
+pub matched : (s : Scene) (t : Text → List ℕ) (m k : Sent) → m ≡ k → apply s (fill s (valuesBy t k)) ≡ apply s (fill s (valuesBy t m))
+matched s t m k e = ap (λ (x : Sent). apply s (fill s (valuesBy t x))) (sym e)
+
+-- A time clears every mark.
+pub time-tables : (s : Scene) (t : Text → List ℕ) (m : Sent) (v : ℕ) → m ≡ M.Time v
+    → (apply s (fill s (valuesBy t m)) .baselines ≡ s .baselines) × (apply s (fill s (valuesBy t m)) .records ≡ s .records)
+    × (apply s (fill s (valuesBy t m)) .present ≡ replicate 449 false)
+unfolding apply fill
+time-tables s t m v e = (
+  ap (λ (x : Sent). apply s (fill s (valuesBy t x)) .baselines) e,
+  ap (λ (x : Sent). apply s (fill s (valuesBy t x)) .records) e,
+  ap (λ (x : Sent). apply s (fill s (valuesBy t x)) .present) e,
+)
+
+-- ---- the messages that change no table, by their place in the list of messages
+
+abbrev pub others : List ℕ
+others = 0 ∷ 1 ∷ 2 ∷ 3 ∷ 4 ∷ 5 ∷ 7 ∷ 8 ∷ 9 ∷ 11 ∷ 12 ∷ 13 ∷ 14 ∷ 15 ∷ 16 ∷ 17 ∷ 18 ∷ 19 ∷ 21 ∷ 22 ∷ 23 ∷ 24 ∷ 25 ∷ 26 ∷ 27 ∷ 28 ∷ 29 ∷ 30 ∷ 31 ∷ 32 ∷ []
+
+-- The tables of a scene after one of them.
+pub tables-kept : (s : Scene) (t : Text → List ℕ) (m : Sent) → OneOf others (tagOf Messages.the-type m)
+    → (apply s (fill s (valuesBy t m)) .baselines ≡ s .baselines) × (apply s (fill s (valuesBy t m)) .records ≡ s .records)
+    × (apply s (fill s (valuesBy t m)) .present ≡ s .present)
+unfolding apply fill
+tables-kept s t M.Nop h = (refl, refl, refl)
+tables-kept s t M.Disconnect h = (refl, refl, refl)
+tables-kept s t (M.Stat _ _) h = (refl, refl, refl)
+tables-kept s t (M.Version _) h = (refl, refl, refl)
+tables-kept s t (M.View _) h = (refl, refl, refl)
+tables-kept s t (M.Sound _) h = (refl, refl, refl)
+tables-kept s t (M.Time _) h = absurd (miss others 6 tt h)
+tables-kept s t (M.Print _) h = (refl, refl, refl)
+tables-kept s t (M.Stufftext _) h = (refl, refl, refl)
+tables-kept s t (M.SetAngles _ _ _) h = (refl, refl, refl)
+tables-kept s t (M.Serverinfo _) h = absurd (miss others 10 tt h)
+tables-kept s t (M.Style _ _) h = (refl, refl, refl)
+tables-kept s t (M.Name _ _) h = (refl, refl, refl)
+tables-kept s t (M.Frags _ _) h = (refl, refl, refl)
+tables-kept s t (M.Clientdata _) h = (refl, refl, refl)
+tables-kept s t (M.Stopsound _ _) h = (refl, refl, refl)
+tables-kept s t (M.Colours _ _) h = (refl, refl, refl)
+tables-kept s t (M.Particle _) h = (refl, refl, refl)
+tables-kept s t (M.Damage _ _ _) h = (refl, refl, refl)
+tables-kept s t (M.Static _ _) h = (refl, refl, refl)
+tables-kept s t (M.Baseline _ _ _) h = absurd (miss others 20 tt h)
+tables-kept s t (M.Temporary _) h = (refl, refl, refl)
+tables-kept s t (M.Pause _) h = (refl, refl, refl)
+tables-kept s t (M.Signon _) h = (refl, refl, refl)
+tables-kept s t (M.Centerprint _) h = (refl, refl, refl)
+tables-kept s t M.Killed h = (refl, refl, refl)
+tables-kept s t M.Secret h = (refl, refl, refl)
+tables-kept s t (M.StaticSound _ _ _ _) h = (refl, refl, refl)
+tables-kept s t M.Intermission h = (refl, refl, refl)
+tables-kept s t (M.Finale _) h = (refl, refl, refl)
+tables-kept s t (M.Track _ _) h = (refl, refl, refl)
+tables-kept s t M.Sellscreen h = (refl, refl, refl)
+tables-kept s t (M.Cutscene _) h = (refl, refl, refl)
+tables-kept s t (M.Update _) h = absurd (miss others 33 tt h)
+
+-- A scene from its tables and its rest.
+pub rest-joined : (s : Scene) (x : Rest) (b e : List (List ℕ)) (p : List Bool) → sceneWith [] [] [] x ≡ withTables [] [] [] s
+    → s .baselines ≡ b → s .records ≡ e → s .present ≡ p → sceneWith b e p x ≡ s
+unfolding sceneWith
+rest-joined s x b e p q eb ee ep = ap (withTables b e p) q ∙ sym (λ i. withTables (eb i) (ee i) (ep i) s)

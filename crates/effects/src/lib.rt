@@ -1,15 +1,17 @@
 // What a message does to the scene.
 ghost use mathlib.Core.Path.{_≡_};
-ghost use mathlib.Core.List.{[], _∷_, _++_};
-ghost use Prim.Native.Nat.{_≤_};
+ghost use mathlib.Core.List.{List, [], _∷_, _++_};
+ghost use Prim.Native.Nat.{ℕ, _≤_, _<_};
 ghost use Rattle.dem.specs.Kind;
 ghost use Rattle.dem.specs.Layout.{number};
 ghost use Rattle.dem.specs.Message.{apply, fill};
-ghost use Rattle.message.specs.Values.{lookValues, poseValues, updateValues};
-ghost use Rattle.scene.specs.Views.{sceneOf, baselineNumbers};
+ghost use Rattle.message.specs.Values.{lookValues, poseValues, updateValues, valuesBy};
+ghost use Rattle.scene.specs.Views.{sceneOf, baselineNumbers, Numbered};
 ghost use Rattle.dem.specs.Scene.{baselineAt};
+ghost use Rattle.wire.specs.declared.Text.{Text};
 use message::Entity;
 use message::Look;
+use message::Message;
 use message::Pose;
 use message::Update;
 use scene::Baseline;
@@ -65,4 +67,32 @@ fn with_update(s: Scene, u: Update) -> Scene
         y.present[i] = true;
     }
     y
+}
+
+// The scene after a message.
+pub fn scene_after(s: Scene, m: Message) -> Scene
+    requires { ⌜ s .rest .statics < 255 ⌝ }
+    ensures { λ r. ⌜ ((t : Text → List ℕ) → Numbered m → sceneOf r ≡ apply (sceneOf s) (fill (sceneOf s) (valuesBy t m))) ⌝ }
+{
+    match m {
+        Message::Update(u) => with_update(s, u),
+        Message::Baseline(entity, look, pose) => with_baseline(s, entity, look, pose),
+        Message::Serverinfo(i) => scene::cleared_scene(i.limit),
+        Message::Time(_) => {
+            let rest = s.rest;
+            let after = scene::apply_rest(rest, m);
+            let present = [false; 449];
+            let mut y = s;
+            y.present = present;
+            y.rest = after;
+            y
+        }
+        _ => {
+            let rest = s.rest;
+            let after = scene::apply_rest(rest, m);
+            let mut y = s;
+            y.rest = after;
+            y
+        }
+    }
 }

@@ -1,2 +1,5 @@
 pub mod UnsignedLaws
 pub mod RoomLaws
+pub mod PrintLaws
+pub mod KindLaws
+pub mod ListLaws

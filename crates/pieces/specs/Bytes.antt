@@ -2,14 +2,35 @@
 use mathlib.Core.List.{List, [], _∷_, _++_}
 use Prim.Native.Nat.{ℕ, zero, suc, min}
 use lib.ListN.{getD}
+use mir.Val.{ofZ}
+use mir.Syntax.{w8, w16}
 use Rattle.dem.specs.Bytes.{leWrite}
 use Rattle.wire.specs.Cursors.{textIn}
+use Rattle.wire.specs.declared.Text.{Text}
+use Rattle.message.specs.declared.Vector.{Vector}
+use Rattle.message.specs.declared.Look.{Look}
+use Rattle.message.specs.declared.Pose.{Pose}
 use Rattle.pieces.specs.declared.Piece.{Piece}
 use Rattle.pieces.specs.declared.Pieces.{Pieces}
 
 -- A number alone.
 abbrev pub numberPiece : ℕ → ℕ → Piece
 numberPiece w v = record { start = 0; len = 0; width = w; value = v }
+
+-- A string, or serverinfo's lists: a text and w zeros.
+abbrev pub textPiece : Text → ℕ → Piece
+textPiece t w = record { start = t .start; len = t .len; width = w; value = 0 }
+
+abbrev pub vectorPieces : Vector → List Piece
+vectorPieces v = numberPiece 2 (ofZ w16 (v .x)) ∷ numberPiece 2 (ofZ w16 (v .y)) ∷ numberPiece 2 (ofZ w16 (v .z)) ∷ []
+
+abbrev pub lookPieces : Look → List Piece
+lookPieces l = numberPiece 1 (l .model) ∷ numberPiece 1 (l .frame) ∷ numberPiece 1 (l .colormap) ∷ numberPiece 1 (l .skin) ∷ []
+
+abbrev pub posePieces : Pose → List Piece
+posePieces p =
+    numberPiece 2 (ofZ w16 (p .x)) ∷ numberPiece 1 (ofZ w8 (p .angle0)) ∷ numberPiece 2 (ofZ w16 (p .y))
+    ∷ numberPiece 1 (ofZ w8 (p .angle1)) ∷ numberPiece 2 (ofZ w16 (p .z)) ∷ numberPiece 1 (ofZ w8 (p .angle2)) ∷ []
 
 -- Some bytes of a text, then a number.
 abbrev pub pieceBytes : List ℕ → Piece → List ℕ

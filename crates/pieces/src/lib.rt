@@ -1,15 +1,33 @@
 // The bytes that a message as sent is written as: a list of pieces, each some bytes of a text and then a number. One loop writes every
 // message.
 ghost use mathlib.Core.Path.{_≡_};
-ghost use mathlib.Core.List.{[], _∷_, _++_};
-ghost use mathlib.Core.Bool.{cond};
-ghost use Prim.Native.Nat.{ℕ, _+_, _-_, _^_, _≤_, _<_, min};
+ghost use mathlib.Core.List.{List, [], _∷_, _++_};
+ghost use mathlib.Core.Bool.{true, cond};
+ghost use Prim.Native.Nat.{ℕ, suc, _+_, _-_, _^_, _≤_, _<_, min};
 ghost use lib.ListN.{length, take, drop};
 ghost use lib.Seq.{sets};
 ghost use mir.Val.{ofZ};
 ghost use mir.Syntax.{w8, w16, w32};
-ghost use Rattle.dem.specs.Bytes.{leWrite};
-ghost use Rattle.pieces.specs.Bytes.{numberPiece, listOf, piecesBytes};
+ghost use Rattle.dem.specs.Bytes.{leWrite, bit, bitOf};
+ghost use Rattle.dem.specs.Layout.{number, print, allows, tail};
+ghost use Rattle.dem.specs.Scene.{Context};
+ghost use Rattle.dem.specs.Message.{layout, updateLayout};
+ghost use Rattle.wire.specs.Cursors.{textIn};
+ghost use Rattle.message.specs.Values.{valuesBy, particleValues, temporaryValues, soundValues, clientValues, updateValues};
+ghost use Rattle.pieces.specs.Bytes.{numberPiece, textPiece, vectorPieces, lookPieces, posePieces, listOf, piecesBytes};
+ghost use Rattle.pieces.specs.Closed.{Closed};
+use message::Clientdata;
+use message::Entity;
+use message::Look;
+use message::Message;
+use message::Particle;
+use message::Pose;
+use message::Serverinfo;
+use message::Sound;
+use message::Temporary;
+use message::Update;
+use message::Vector;
+use wire::Text;
 
 // Some bytes of a text, then a number of `width` bytes, little end first.
 pub struct Piece {
@@ -85,6 +103,44 @@ fn from_i16(z: i16) -> Piece
     number(2, unsigned16(z) as u32)
 }
 
+fn from_i32(z: i32) -> Piece
+    ensures { λ r. ⌜ r ≡ numberPiece 4 (ofZ w32 z) ⌝ }
+{
+    number(4, unsigned32(z))
+}
+
+// A field that a mask brings where its bit of this weight is set, and else no bytes.
+fn sent(mask: u16, weight: u16, width: usize, value: u32) -> Piece
+    requires { ⌜ 0 < weight ⌝ }
+    ensures { λ r. ⌜ ((k : ℕ) → weight ≡ 2 ^ k → r ≡ numberPiece (cond (bit mask k) width 0) value) ⌝ }
+{
+    if wire::has(mask, weight) {
+        return number(width, value);
+    }
+    number(0, value)
+}
+
+fn sent_u8(mask: u16, weight: u16, v: u8) -> Piece
+    requires { ⌜ 0 < weight ⌝ }
+    ensures { λ r. ⌜ ((k : ℕ) → weight ≡ 2 ^ k → r ≡ numberPiece (cond (bit mask k) 1 0) v) ⌝ }
+{
+    sent(mask, weight, 1, v as u32)
+}
+
+fn sent_i8(mask: u16, weight: u16, z: i8) -> Piece
+    requires { ⌜ 0 < weight ⌝ }
+    ensures { λ r. ⌜ ((k : ℕ) → weight ≡ 2 ^ k → r ≡ numberPiece (cond (bit mask k) 1 0) (ofZ w8 z)) ⌝ }
+{
+    sent(mask, weight, 1, unsigned8(z) as u32)
+}
+
+fn sent_i16(mask: u16, weight: u16, z: i16) -> Piece
+    requires { ⌜ 0 < weight ⌝ }
+    ensures { λ r. ⌜ ((k : ℕ) → weight ≡ 2 ^ k → r ≡ numberPiece (cond (bit mask k) 2 0) (ofZ w16 z)) ⌝ }
+{
+    sent(mask, weight, 2, unsigned16(z) as u32)
+}
+
 // A message's number and at most three numbers more.
 fn numbers(n: u8, w0: usize, v0: u32, w1: usize, v1: u32, w2: usize, v2: u32) -> Pieces
     ensures { λ r. ⌜ listOf r ≡ (numberPiece 1 n ∷ numberPiece w0 v0 ∷ numberPiece w1 v1 ∷ numberPiece w2 v2 ∷ []) ⌝ }
@@ -96,6 +152,277 @@ fn numbers(n: u8, w0: usize, v0: u32, w1: usize, v1: u32, w2: usize, v2: u32) ->
     items[2] = number(w1, v1);
     items[3] = number(w2, v2);
     Pieces { items, count: 4 }
+}
+
+// A text, then `width` zeros: a string, or serverinfo's lists with their closing empty names.
+fn text(t: Text, width: usize) -> Piece
+    ensures { λ r. ⌜ r ≡ textPiece t width ⌝ }
+{
+    Piece {
+        start: t.start,
+        len: t.len,
+        width,
+        value: 0,
+    }
+}
+
+// Two bytes for an entity where bit 14 of an update's mask is set, and else one.
+fn entity_width(high: u16) -> usize
+    ensures { λ r. ⌜ r ≡ suc (bitOf (bit high 6)) ⌝ }
+{
+    if wire::has(high, 64) {
+        return 2;
+    }
+    1
+}
+
+// A message's number, at most one number more, and a string.
+fn with_string(n: u8, w: usize, v: u32, t: Text) -> Pieces
+    ensures { λ r. ⌜ listOf r ≡ (numberPiece 1 n ∷ numberPiece w v ∷ textPiece t 1 ∷ []) ⌝ }
+{
+    let zero = number(0, 0);
+    let mut items = [zero; 32];
+    items[0] = from_u8(n);
+    items[1] = number(w, v);
+    items[2] = text(t, 1);
+    Pieces { items, count: 3 }
+}
+
+// A message's number, two numbers more, and a vector.
+fn before_vector(n: u8, w0: usize, v0: u32, w1: usize, v1: u32, v: Vector) -> Pieces
+    ensures { λ r. ⌜ listOf r ≡ (numberPiece 1 n ∷ numberPiece w0 v0 ∷ numberPiece w1 v1 ∷ vectorPieces v) ⌝ }
+{
+    let zero = number(0, 0);
+    let mut items = [zero; 32];
+    items[0] = from_u8(n);
+    items[1] = number(w0, v0);
+    items[2] = number(w1, v1);
+    items[3] = from_i16(v.x);
+    items[4] = from_i16(v.y);
+    items[5] = from_i16(v.z);
+    Pieces { items, count: 6 }
+}
+
+// A message's number, a vector, three bytes and two numbers more.
+fn behind_vector(n: u8, v: Vector, a: u8, b: u8, c: u8, w: usize, d: u32, e: u32) -> Pieces
+    ensures { λ r. ⌜ listOf r ≡ (numberPiece 1 n ∷ (vectorPieces v ++ (numberPiece 1 a ∷ numberPiece 1 b ∷ numberPiece 1 c ∷ numberPiece w d ∷ numberPiece w e ∷ []))) ⌝ }
+{
+    let zero = number(0, 0);
+    let mut items = [zero; 32];
+    items[0] = from_u8(n);
+    items[1] = from_i16(v.x);
+    items[2] = from_i16(v.y);
+    items[3] = from_i16(v.z);
+    items[4] = from_u8(a);
+    items[5] = from_u8(b);
+    items[6] = from_u8(c);
+    items[7] = number(w, d);
+    items[8] = number(w, e);
+    Pieces { items, count: 9 }
+}
+
+fn particle(p: Particle) -> Pieces
+    ensures { λ r. ⌜ ((x : Context) (t : List ℕ) → piecesBytes t r ≡ print (layout x) (number 18 ∷ particleValues p)) ⌝ }
+{
+    let v = p.origin;
+    let a = unsigned8(p.direction0);
+    let b = unsigned8(p.direction1);
+    let c = unsigned8(p.direction2);
+    behind_vector(18, v, a, b, c, 1, p.count as u32, p.colour as u32)
+}
+
+// A temporary entity from an entity and a vector to another.
+fn line(k: u8, e: Entity, v: Vector, w: Vector) -> Pieces
+    ensures { λ r. ⌜ listOf r ≡ (numberPiece 1 23 ∷ numberPiece 1 k ∷ numberPiece 2 (e .0) ∷ (vectorPieces v ++ vectorPieces w)) ⌝ }
+{
+    let zero = number(0, 0);
+    let mut items = [zero; 32];
+    items[0] = from_u8(23);
+    items[1] = from_u8(k);
+    items[2] = number(2, e.0 as u32);
+    items[3] = from_i16(v.x);
+    items[4] = from_i16(v.y);
+    items[5] = from_i16(v.z);
+    items[6] = from_i16(w.x);
+    items[7] = from_i16(w.y);
+    items[8] = from_i16(w.z);
+    Pieces { items, count: 9 }
+}
+
+fn temporary(k: Temporary) -> Pieces
+    ensures { λ r. ⌜ ((x : Context) (t : List ℕ) → allows (layout x) (number 23 ∷ temporaryValues k) ≡ true → piecesBytes t r ≡ print (layout x) (number 23 ∷ temporaryValues k)) ⌝ }
+{
+    match k {
+        Temporary::Point(n, v) => before_vector(23, 1, n as u32, 0, 0, v),
+        Temporary::Line(n, e, v, w) => line(n, e, v, w),
+    }
+}
+
+// A message's number, at most one number more, and what is shown where.
+fn placed(n: u8, w: usize, e: u32, l: Look, p: Pose) -> Pieces
+    ensures { λ r. ⌜ listOf r ≡ (numberPiece 1 n ∷ numberPiece w e ∷ (lookPieces l ++ posePieces p)) ⌝ }
+{
+    let zero = number(0, 0);
+    let mut items = [zero; 32];
+    items[0] = from_u8(n);
+    items[1] = number(w, e);
+    items[2] = from_u8(l.model);
+    items[3] = from_u8(l.frame);
+    items[4] = from_u8(l.colormap);
+    items[5] = from_u8(l.skin);
+    items[6] = from_i16(p.x);
+    items[7] = from_i8(p.angle0);
+    items[8] = from_i16(p.y);
+    items[9] = from_i8(p.angle1);
+    items[10] = from_i16(p.z);
+    items[11] = from_i8(p.angle2);
+    Pieces { items, count: 12 }
+}
+
+fn serverinfo(s: Serverinfo) -> Pieces
+    ensures { λ r. ⌜ listOf r ≡ (numberPiece 1 11 ∷ numberPiece 4 (ofZ w32 (s .protocol)) ∷ numberPiece 1 (s .limit) ∷ numberPiece 1 (s .game) ∷ textPiece (s .map) 1 ∷ textPiece (s .names) 0 ∷ []) ⌝ }
+{
+    let map = s.map;
+    let names = s.names;
+    let zero = number(0, 0);
+    let mut items = [zero; 32];
+    items[0] = from_u8(11);
+    items[1] = from_i32(s.protocol);
+    items[2] = from_u8(s.limit);
+    items[3] = from_u8(s.game);
+    items[4] = text(map, 1);
+    items[5] = text(names, 0);
+    Pieces { items, count: 6 }
+}
+
+fn sound(s: Sound) -> Pieces
+    ensures { λ r. ⌜ ((x : Context) (t : List ℕ) → piecesBytes t r ≡ print (layout x) (number 6 ∷ soundValues s)) ⌝ }
+{
+    let mask = s.mask as u16;
+    let e = s.entity;
+    let v = s.origin;
+    let zero = number(0, 0);
+    let mut items = [zero; 32];
+    items[0] = from_u8(6);
+    items[1] = from_u8(s.mask);
+    items[2] = sent_u8(mask, 1, s.volume);
+    items[3] = sent_u8(mask, 2, s.attenuation);
+    items[4] = number(2, (e.0 as u32) * 8 + (s.channel as u32));
+    items[5] = from_u8(s.sound);
+    items[6] = from_i16(v.x);
+    items[7] = from_i16(v.y);
+    items[8] = from_i16(v.z);
+    Pieces { items, count: 9 }
+}
+
+fn clientdata(c: Clientdata) -> Pieces
+    ensures { λ r. ⌜ ((x : Context) (t : List ℕ) → piecesBytes t r ≡ print (layout x) (number 15 ∷ clientValues c)) ⌝ }
+{
+    let mask = c.mask;
+    let m = c.motion;
+    let a = c.arms;
+    let s = c.supplies;
+    let zero = number(0, 0);
+    let mut items = [zero; 32];
+    items[0] = from_u8(15);
+    items[1] = number(2, mask as u32);
+    items[2] = sent_i8(mask, 1, m.view_height);
+    items[3] = sent_i8(mask, 2, m.pitch);
+    items[4] = sent_i8(mask, 4, m.punch0);
+    items[5] = sent_i8(mask, 32, m.velocity0);
+    items[6] = sent_i8(mask, 8, m.punch1);
+    items[7] = sent_i8(mask, 64, m.velocity1);
+    items[8] = sent_i8(mask, 16, m.punch2);
+    items[9] = sent_i8(mask, 128, m.velocity2);
+    items[10] = from_i32(c.items);
+    items[11] = sent_u8(mask, 4096, a.weapon_frame);
+    items[12] = sent_u8(mask, 8192, a.armour);
+    items[13] = sent_u8(mask, 16384, a.weapon_model);
+    items[14] = from_i16(s.health);
+    items[15] = from_u8(s.ammo);
+    items[16] = from_u8(s.count0);
+    items[17] = from_u8(s.count1);
+    items[18] = from_u8(s.count2);
+    items[19] = from_u8(s.count3);
+    items[20] = from_u8(s.weapon);
+    Pieces { items, count: 21 }
+}
+
+fn update(u: Update) -> Pieces
+    ensures { λ r. ⌜ ((t : List ℕ) → piecesBytes t r ≡ leWrite 1 (u .number) ++ print (updateLayout (u .number)) (tail (updateValues u))) ⌝ }
+{
+    let low = u.number as u16;
+    let high = u.high as u16;
+    let e = u.entity;
+    let l = u.look;
+    let p = u.pose;
+    let zero = number(0, 0);
+    let mut items = [zero; 32];
+    items[0] = from_u8(u.number);
+    items[1] = sent_u8(low, 1, u.high);
+    items[2] = number(entity_width(high), e.0 as u32);
+    items[3] = sent_u8(high, 4, l.model);
+    items[4] = sent_u8(low, 64, l.frame);
+    items[5] = sent_u8(high, 8, l.colormap);
+    items[6] = sent_u8(high, 16, l.skin);
+    items[7] = sent_u8(high, 32, u.effects);
+    items[8] = sent_i16(low, 2, p.x);
+    items[9] = sent_i8(high, 1, p.angle0);
+    items[10] = sent_i16(low, 4, p.y);
+    items[11] = sent_i8(low, 16, p.angle1);
+    items[12] = sent_i16(low, 8, p.z);
+    items[13] = sent_i8(high, 2, p.angle2);
+    Pieces { items, count: 14 }
+}
+
+// A message's pieces: with any text, their bytes are those that the message is written as in any scene that it can be read in.
+pub fn pieces_of(m: Message) -> Pieces
+    ensures { λ r. ⌜ ((x : Context) (t : List ℕ) → allows (layout x) (valuesBy (textIn t) m) ≡ true → Closed t m → piecesBytes t r ≡ print (layout x) (valuesBy (textIn t) m)) ⌝ }
+{
+    match m {
+        Message::Nop => numbers(1, 0, 0, 0, 0, 0, 0),
+        Message::Disconnect => numbers(2, 0, 0, 0, 0, 0, 0),
+        Message::Stat(i, v) => numbers(3, 1, i as u32, 4, unsigned32(v), 0, 0),
+        Message::Version(v) => numbers(4, 4, unsigned32(v), 0, 0, 0, 0),
+        Message::View(e) => numbers(5, 2, e.0 as u32, 0, 0, 0, 0),
+        Message::Sound(s) => sound(s),
+        Message::Time(v) => numbers(7, 4, v, 0, 0, 0, 0),
+        Message::Print(t) => with_string(8, 0, 0, t),
+        Message::Stufftext(t) => with_string(9, 0, 0, t),
+        Message::SetAngles(a, b, c) => numbers(
+            10,
+            1,
+            unsigned8(a) as u32,
+            1,
+            unsigned8(b) as u32,
+            1,
+            unsigned8(c) as u32,
+        ),
+        Message::Serverinfo(s) => serverinfo(s),
+        Message::Style(i, t) => with_string(12, 1, i as u32, t),
+        Message::Name(p, t) => with_string(13, 1, p.0 as u32, t),
+        Message::Frags(p, v) => numbers(14, 1, p.0 as u32, 2, unsigned16(v) as u32, 0, 0),
+        Message::Clientdata(c) => clientdata(c),
+        Message::Stopsound(c, e) => numbers(16, 2, (e.0 as u32) * 8 + (c as u32), 0, 0, 0, 0),
+        Message::Colours(p, v) => numbers(17, 1, p.0 as u32, 1, v as u32, 0, 0),
+        Message::Particle(p) => particle(p),
+        Message::Damage(a, b, v) => before_vector(19, 1, a as u32, 1, b as u32, v),
+        Message::Static(l, p) => placed(20, 0, 0, l, p),
+        Message::Baseline(e, l, p) => placed(22, 2, e.0 as u32, l, p),
+        Message::Temporary(k) => temporary(k),
+        Message::Pause(v) => numbers(24, 1, v as u32, 0, 0, 0, 0),
+        Message::Signon(v) => numbers(25, 1, v as u32, 0, 0, 0, 0),
+        Message::Centerprint(t) => with_string(26, 0, 0, t),
+        Message::Killed => numbers(27, 0, 0, 0, 0, 0, 0),
+        Message::Secret => numbers(28, 0, 0, 0, 0, 0, 0),
+        Message::StaticSound(v, a, b, c) => behind_vector(29, v, a, b, c, 0, 0, 0),
+        Message::Intermission => numbers(30, 0, 0, 0, 0, 0, 0),
+        Message::Finale(t) => with_string(31, 0, 0, t),
+        Message::Track(a, b) => numbers(32, 1, a as u32, 1, b as u32, 0, 0),
+        Message::Sellscreen => numbers(33, 0, 0, 0, 0, 0, 0),
+        Message::Cutscene(t) => with_string(34, 0, 0, t),
+        Message::Update(u) => update(u),
+    }
 }
 
 fn least(a: usize, b: usize) -> usize

@@ -1,0 +1,28 @@
+-- `pieces::sent_i16` meets its contract.
+-- Assumes nothing.
+use mathlib.Core.Path.{refl, ap, _∙_}
+use mathlib.Core.Bool.{cond}
+use mir.Syntax.{w16}
+use borrow.Author.Needs.{needs}
+use Rattle.dem.specs.Bytes.{bit}
+use Rattle.wire.proofs.SignedLaws.{same-bits}
+use Rattle.pieces.specs.Bytes.{numberPiece}
+use Rattle.pieces.proofs.sent_i16.Statement.{statement}
+use Rattle.pieces.proofs.sent_i16.Tie as tie
+
+unsigned16-requires : tie.Need-unsigned16-requires
+unsigned16-requires c κs = search needs
+
+cast-sent : tie.Need-cast-sent
+cast-sent c = search needs
+
+sent-requires : tie.Need-sent-requires
+sent-requires c κs = search needs
+
+returns : tie.Need-returns
+returns c k q =
+    c .sent .ensures k q
+    ∙ ap (numberPiece (cond (bit (c .before .before .args .mask) k) 2 0)) (c .before .unsigned16 .ensures ∙ same-bits w16 _ _ (c .before .before .fits .z) refl)
+
+pub sent-i16-spec : {M : Type 1} → statement M
+sent-i16-spec = tie.close (tie.spec unsigned16-requires cast-sent sent-requires returns)

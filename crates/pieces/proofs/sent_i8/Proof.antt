@@ -1,0 +1,28 @@
+-- `pieces::sent_i8` meets its contract.
+-- Assumes nothing.
+use mathlib.Core.Path.{refl, ap, _∙_}
+use mathlib.Core.Bool.{cond}
+use mir.Syntax.{w8}
+use borrow.Author.Needs.{needs}
+use Rattle.dem.specs.Bytes.{bit}
+use Rattle.wire.proofs.SignedLaws.{same-bits}
+use Rattle.pieces.specs.Bytes.{numberPiece}
+use Rattle.pieces.proofs.sent_i8.Statement.{statement}
+use Rattle.pieces.proofs.sent_i8.Tie as tie
+
+unsigned8-requires : tie.Need-unsigned8-requires
+unsigned8-requires c κs = search needs
+
+cast-sent : tie.Need-cast-sent
+cast-sent c = search needs
+
+sent-requires : tie.Need-sent-requires
+sent-requires c κs = search needs
+
+returns : tie.Need-returns
+returns c k q =
+    c .sent .ensures k q
+    ∙ ap (numberPiece (cond (bit (c .before .before .args .mask) k) 1 0)) (c .before .unsigned8 .ensures ∙ same-bits w8 _ _ (c .before .before .fits .z) refl)
+
+pub sent-i8-spec : {M : Type 1} → statement M
+sent-i8-spec = tie.close (tie.spec unsigned8-requires cast-sent sent-requires returns)

@@ -1,6 +1,6 @@
 -- A scene with other tables, and an update of one entity.
 -- Assumes nothing.
-use mathlib.Core.Path.{_≡_, refl, sym, ap, ap₂, _∙_}
+use mathlib.Core.Path.{_≡_, refl, sym, ap, _∙_, subst}
 use mathlib.Core.List.{List, [], _∷_, map}
 use mathlib.Core.Bool.{Bool, true, false}
 use Prim.Native.Nat.{ℕ, _≤_, _<_}
@@ -19,7 +19,8 @@ use Rattle.wire.specs.declared.Text.{Text}
 use Rattle.message.proofs.Message as Messages
 use Rattle.message.specs.declared.Message.{Message as Sent}
 use Rattle.message.specs.declared.Message.the-variants as M
-use Rattle.scene.specs.Views.{recordValues, sceneWith, withTables}
+use Rattle.scene.specs.Views.{recordValues, baselineNumbers, BaselineOf, sceneWith, withTables}
+use Rattle.scene.specs.declared.Baseline.{Baseline as Held}
 use Rattle.scene.specs.declared.Rest.{Rest}
 use Rattle.scene.specs.declared.Record.{Record}
 
@@ -98,3 +99,17 @@ pub rest-joined : (s : Scene) (x : Rest) (b e : List (List ℕ)) (p : List Bool)
     → s .baselines ≡ b → s .records ≡ e → s .present ≡ p → sceneWith b e p x ≡ s
 unfolding sceneWith
 rest-joined s x b e p q eb ee ep = ap (withTables b e p) q ∙ sym (λ i. withTables (eb i) (ee i) (ep i) s)
+
+-- ---- the baseline that a message is filled in from
+
+pub of-update : (s : Scene) (m : Sent) (u : Update) (b : Held) → m ≡ M.Update u → baselineNumbers b ≡ baselineAt s (u .entity .0)
+    → BaselineOf s m b
+of-update s m u b e q v f = let z : v ≡ u = cc in ap (λ (w : Update). baselineAt s (w .entity .0)) z ∙ sym q
+
+-- Every message but an update, by its place in the list of messages.
+abbrev pub noUpdate : List ℕ
+noUpdate =
+    0 ∷ 1 ∷ 2 ∷ 3 ∷ 4 ∷ 5 ∷ 6 ∷ 7 ∷ 8 ∷ 9 ∷ 10 ∷ 11 ∷ 12 ∷ 13 ∷ 14 ∷ 15 ∷ 16 ∷ 17 ∷ 18 ∷ 19 ∷ 20 ∷ 21 ∷ 22 ∷ 23 ∷ 24 ∷ 25 ∷ 26 ∷ 27 ∷ 28 ∷ 29 ∷ 30 ∷ 31 ∷ 32 ∷ []
+
+pub of-other : (s : Scene) (m : Sent) (b : Held) → OneOf noUpdate (tagOf Messages.the-type m) → BaselineOf s m b
+of-other s m b h u e = absurd (miss noUpdate 33 tt (subst (λ (k : Sent). OneOf noUpdate (tagOf Messages.the-type k)) e h))

@@ -6,7 +6,7 @@ ghost use Rattle.dem.specs.Kind;
 ghost use Rattle.dem.specs.Layout.{number};
 ghost use Rattle.dem.specs.Message.{apply, fill};
 ghost use Rattle.message.specs.Values.{lookValues, poseValues, updateValues, valuesBy};
-ghost use Rattle.scene.specs.Views.{sceneOf, baselineNumbers, Numbered};
+ghost use Rattle.scene.specs.Views.{sceneOf, baselineNumbers, Numbered, filledValues};
 ghost use Rattle.dem.specs.Scene.{baselineAt};
 ghost use Rattle.wire.specs.declared.Text.{Text};
 use message::Entity;
@@ -15,6 +15,7 @@ use message::Message;
 use message::Pose;
 use message::Update;
 use scene::Baseline;
+use scene::Filled;
 use scene::Scene;
 
 // The baseline of an entity, all zero past the last.
@@ -93,6 +94,24 @@ pub fn scene_after(s: Scene, m: Message) -> Scene
             let mut y = s;
             y.rest = after;
             y
+        }
+    }
+}
+
+// The filled-in form of a message.
+pub fn filled_in(s: Scene, m: Message) -> Filled
+    ensures { λ r. ⌜ ((t : Text → List ℕ) → Numbered m → filledValues t r ≡ fill (sceneOf s) (valuesBy t m)) ⌝ }
+{
+    match m {
+        Message::Update(u) => {
+            let entity = u.entity;
+            let i = entity.0 as usize;
+            let b = baseline_of(s, i);
+            scene::fill_message(m, b)
+        }
+        _ => {
+            let b = baseline_of(s, 0);
+            scene::fill_message(m, b)
         }
     }
 }

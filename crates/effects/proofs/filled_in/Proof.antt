@@ -1,0 +1,56 @@
+-- `effects::filled_in` meets its contract: an update is filled in from its entity's baseline, and another needs none.
+-- Assumes nothing.
+use mathlib.Core.Path.{refl, sym, ap, _∙_}
+use Rattle.dem.specs.Message.{fill}
+use Rattle.message.specs.declared.Message.{Message}
+use Rattle.message.specs.declared.Message.the-variants as Sent
+use Rattle.message.specs.Values.{valuesBy}
+use Rattle.scene.specs.Views.{sceneOf}
+use Rattle.effects.proofs.Tables.{of-update, of-other}
+use borrow.Author.Needs.{needs}
+use Rattle.effects.proofs.filled_in.Statement.{statement}
+use Rattle.effects.proofs.filled_in.Tie as tie
+
+enum-known-m : tie.Need-enum-known-m
+enum-known-m c = search needs
+
+cast-i : tie.Need-cast-i
+cast-i c = search needs
+
+baseline-of-requires : tie.Need-baseline-of-requires
+baseline-of-requires c κs = search needs
+
+fill-message-requires : tie.Need-fill-message-requires
+fill-message-requires c κs = search needs
+
+baseline-of-requires-2 : tie.Need-baseline-of-requires-2
+baseline-of-requires-2 c κs = search needs
+
+fill-message-requires-2 : tie.Need-fill-message-requires-2
+fill-message-requires-2 c κs = search needs
+
+returns : tie.Need-returns
+returns c t n =
+    let a = c .before .before .before .before .before .before .before .args in
+    let s = sceneOf (a .s) in
+    let g = c .before .before .before .before .before .m .given in
+    c .fill-message .ensures s t (λ v q. n v (g .1 ∙ q)) (of-update s (Sent.Update (g .0 .0)) (g .0 .0) (c .before .baseline-of .result) refl (c .before .baseline-of .ensures))
+    ∙ ap (λ (m : Message). fill s (valuesBy t m)) (sym (g .1))
+
+returns-2 : tie.Need-returns-2
+returns-2 c t n =
+    let a = c .before .before .before .args in
+    c .fill-message2 .ensures (sceneOf (a .s)) t n (of-other (sceneOf (a .s)) (a .m) (c .before .baseline-of2 .result) (c .before .before .match .keys2))
+
+pub filled-in-spec : {M : Type 1} → statement M
+filled-in-spec =
+    tie.close
+    (tie.spec
+    enum-known-m
+    cast-i
+    baseline-of-requires
+    fill-message-requires
+    baseline-of-requires-2
+    fill-message-requires-2
+    returns
+    returns-2)

@@ -1,0 +1,104 @@
+// The library's entries: any bytes, any scene and any record get an answer. None has a `requires`.
+ghost use mathlib.Core.Path.{_≡_};
+ghost use mathlib.Core.List.{List};
+ghost use mathlib.Core.Bool.{Bool};
+ghost use Prim.Native.Nat.{ℕ, _-_};
+ghost use Rattle.dem.specs.Scene.{fresh, contextOf};
+ghost use Rattle.dem.specs.Answer.{messageAt};
+ghost use Rattle.parts.specs.Kinds.{contextOf as numbersOf};
+ghost use Rattle.scene.specs.Views.{sceneWith, sceneOf};
+ghost use Rattle.cobbrundle.specs.Replies.{replyOf};
+use message::Message;
+use parts::Context;
+use scene::Filled;
+use scene::Rest;
+use scene::Scene;
+
+// A message as sent, its filled-in form and the place of what follows it; or "end"; or a refusal's number and place.
+pub enum MessageAnswer {
+    Found(Message, Filled, usize),
+    End,
+    Refused(u8, usize),
+}
+
+// With a refusal and at the end, the scene given.
+pub struct MessageReply {
+    pub answer: MessageAnswer,
+    pub scene: Scene,
+}
+
+// The scene at the start.
+pub fn start() -> Scene
+    ensures { λ r. ⌜ sceneOf r ≡ fresh ⌝ }
+{
+    scene::cleared_scene(0)
+}
+
+fn context(x: Rest) -> Context
+    ensures { λ r. ⌜ ((b e : List (List ℕ)) (p : List Bool) → numbersOf r ≡ contextOf (sceneWith b e p x)) ⌝ }
+{
+    Context {
+        limit: x.limit,
+        statics: x.statics,
+        timed: x.timed,
+        time: x.time,
+    }
+}
+
+// The place of the bytes that are left from a cursor on.
+fn place(len: usize, at: usize) -> usize
+    ensures { λ r. ⌜ r ≡ len - (len - at) ⌝ }
+{
+    if at <= len {
+        return at;
+    }
+    len
+}
+
+// The message at a place of a block's bytes, in a scene.
+pub fn read_message_at(scene: Scene, bytes: &[u8], at: usize) -> MessageReply
+    ensures { λ r. ⌜ replyOf (now (bytes .entry)) r ≡ messageAt (sceneOf scene) (now (bytes .entry)) at ⌝ }
+{
+    let rest = scene.rest;
+    if !scene::in_range(rest) {
+        return MessageReply {
+            answer: MessageAnswer::Refused(14, 0),
+            scene,
+        };
+    }
+    if at == bytes.len() {
+        return MessageReply {
+            answer: MessageAnswer::End,
+            scene,
+        };
+    }
+    if bytes.len() < at {
+        return MessageReply {
+            answer: MessageAnswer::Refused(5, at),
+            scene,
+        };
+    }
+    if rest.ended {
+        return MessageReply {
+            answer: MessageAnswer::Refused(11, at),
+            scene,
+        };
+    }
+    let m = reader::read_message(bytes, at, context(rest));
+    let message = m.message;
+    let c = m.cursor;
+    let refusal = c.refusal;
+    if refusal != 0 {
+        return MessageReply {
+            answer: MessageAnswer::Refused(refusal, at),
+            scene,
+        };
+    }
+    let filled = effects::filled_in(scene, message);
+    let after = effects::scene_after(scene, message);
+    let next = place(bytes.len(), c.at);
+    MessageReply {
+        answer: MessageAnswer::Found(message, filled, next),
+        scene: after,
+    }
+}

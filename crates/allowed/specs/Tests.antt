@@ -1,19 +1,39 @@
--- Whether fields behind a mask are what it says: each that it does not bring is 0.
+-- Whether a message as sent is what some bytes read to, kind by kind, as short tests of its fields.
 use mathlib.Core.List.{List, [], _∷_}
-use mathlib.Core.Bool.{Bool, true, false, _&&_, _||_}
+use mathlib.Core.Bool.{Bool, true, false, not, _&&_, _||_}
 use Prim.Native.Nat.{ℕ}
 use lib.ListN.{take, drop}
-use lib.Dec.{eqb}
+use lib.Dec.{leb, ltb, eqb}
+use mir.Val.{ofZ}
+use mir.Syntax.{w32}
+use Rattle.dem.specs.Kind
+use Rattle.dem.specs.Limits.{entityCount, playerCount, statCount, styleCount, staticLimit, nameLimit, stringLimit, protocol}
 use Rattle.dem.specs.Bytes.{bit}
-use Rattle.dem.specs.Layout.{Value, number, text}
-use Rattle.dem.specs.Masked.{Slot, Mask, isSent, isNumber}
-use Rattle.dem.specs.Scene.{zeroBaseline}
-use Rattle.dem.specs.Message.{clientSlots, updateSlots, updateMask}
+use Rattle.dem.specs.Layout.{Value, number, done, stringBytes, allows}
+use Rattle.dem.specs.Masked.{Slot, Mask, isSent, isNumber, anySet}
+use Rattle.dem.specs.Scene.{zeroBaseline, isTime}
+use Rattle.dem.specs.Message.{soundSlots, clientSlots, updateSlots, updateMask, names, notBefore, isPoint, isLine}
+use Rattle.wire.specs.declared.Text.{Text}
+use Rattle.strings.specs.Names.{namesIn}
 use Rattle.message.specs.Values.{motionValues, armsValues, lookValues, poseValues}
+use Rattle.message.specs.declared.Entity.{Entity}
+use Rattle.message.specs.declared.Sound.{Sound}
+use Rattle.message.specs.declared.Temporary.{Temporary}
+use Rattle.message.specs.declared.Temporary.the-variants.{Point, Line}
+use Rattle.message.specs.declared.Serverinfo.{Serverinfo}
 use Rattle.message.specs.declared.Motion.{Motion}
 use Rattle.message.specs.declared.Arms.{Arms}
+use Rattle.message.specs.declared.Clientdata.{Clientdata}
 use Rattle.message.specs.declared.Look.{Look}
 use Rattle.message.specs.declared.Pose.{Pose}
+use Rattle.message.specs.declared.Update.{Update}
+use Rattle.message.specs.declared.Message.{Message}
+use Rattle.message.specs.declared.Message.the-variants as M
+use Rattle.parts.specs.Kinds.{contextOf}
+use Rattle.parts.specs.declared.Context.{Context}
+use Rattle.allowed.specs.Placed.{placed}
+
+-- ---- fields behind a mask: each that it does not bring is 0
 
 abbrev pub slotTest : Bool → List Slot → Mask → List Value → Bool
 slotTest so [] mask vs = so
@@ -35,3 +55,83 @@ lookTest low high l = partTest (updateSlots zeroBaseline) 0 4 (updateMask low hi
 
 unfoldable pub poseTest : ℕ → ℕ → Pose → Bool
 poseTest low high p = partTest (updateSlots zeroBaseline) 5 6 (updateMask low high) (poseValues p)
+
+-- ---- kinds
+
+abbrev pub textTest : List ℕ → Text → Bool
+textTest t p = stringBytes stringLimit (placed t p)
+
+unfoldable pub listsTest : List ℕ → Text → Bool
+listsTest t p = allows (names nameLimit (names nameLimit done)) (namesIn [] (placed t p))
+
+-- A channel has three bits.
+abbrev pub sourceTest : ℕ → Entity → Bool
+sourceTest channel e = ltb channel 8 && ltb (e .0) entityCount
+
+unfoldable pub soundTest : Sound → Bool
+soundTest s =
+    ltb (s .mask) 4 && partTest soundSlots 0 2 (bit (s .mask)) (number (s .volume) ∷ number (s .attenuation) ∷ [])
+    && sourceTest (s .channel) (s .entity)
+
+unfoldable pub timeTest : Context → ℕ → Bool
+timeTest x v = isTime v && notBefore (contextOf x .time) v
+
+unfoldable pub serverinfoTest : List ℕ → Serverinfo → Bool
+serverinfoTest t s =
+    eqb (ofZ w32 (s .protocol)) protocol && (leb 1 (s .limit) && leb (s .limit) playerCount) && textTest t (s .map)
+    && listsTest t (s .names)
+
+unfoldable pub clientTest : Clientdata → Bool
+clientTest c = not (anySet (8 ∷ 15 ∷ []) (bit (c .mask))) && motionTest (c .mask) (c .motion) && armsTest (c .mask) (c .arms)
+
+unfoldable pub temporaryTest : Temporary → Bool
+temporaryTest (Point k v) = isPoint k
+temporaryTest (Line k e v w) = isLine k && ltb (e .0) entityCount
+
+-- The high mask byte is sent or 0, and its bit 7 is clear; an entity of one byte is below 256.
+unfoldable pub sentTest : Update → Bool
+sentTest u =
+    (bit (u .number) 0 || eqb (u .high) 0) && not (bit (u .high) 7) && (bit (u .high) 6 || ltb (u .entity .0) 256)
+    && ltb (u .entity .0) entityCount && lookTest (u .number) (u .high) (u .look) && (bit (u .high) 5 || eqb (u .effects) 0)
+    && poseTest (u .number) (u .high) (u .pose)
+
+unfoldable pub updateTest : Update → Bool
+updateTest u = leb Kind.update (u .number) && sentTest u
+
+-- ---- every message
+
+unfoldable pub messageTest : List ℕ → Context → Message → Bool
+messageTest t x M.Nop = true
+messageTest t x M.Disconnect = true
+messageTest t x (M.Stat i v) = ltb i statCount
+messageTest t x (M.Version v) = eqb (ofZ w32 v) protocol
+messageTest t x (M.View e) = ltb (e .0) entityCount
+messageTest t x (M.Sound s) = soundTest s
+messageTest t x (M.Time v) = timeTest x v
+messageTest t x (M.Print p) = textTest t p
+messageTest t x (M.Stufftext p) = textTest t p
+messageTest t x (M.SetAngles a b c) = true
+messageTest t x (M.Serverinfo s) = serverinfoTest t s
+messageTest t x (M.Style i p) = ltb i styleCount && textTest t p
+messageTest t x (M.Name p n) = ltb (p .0) (x .limit) && textTest t n
+messageTest t x (M.Frags p v) = ltb (p .0) (x .limit)
+messageTest t x (M.Clientdata c) = clientTest c
+messageTest t x (M.Stopsound c e) = sourceTest c e
+messageTest t x (M.Colours p v) = ltb (p .0) (x .limit)
+messageTest t x (M.Particle p) = true
+messageTest t x (M.Damage a b v) = true
+messageTest t x (M.Static l p) = ltb (x .statics) staticLimit
+messageTest t x (M.Baseline e l p) = ltb (e .0) entityCount
+messageTest t x (M.Temporary k) = temporaryTest k
+messageTest t x (M.Pause v) = true
+messageTest t x (M.Signon v) = true
+messageTest t x (M.Centerprint p) = textTest t p
+messageTest t x M.Killed = true
+messageTest t x M.Secret = true
+messageTest t x (M.StaticSound v a b c) = true
+messageTest t x M.Intermission = true
+messageTest t x (M.Finale p) = textTest t p
+messageTest t x (M.Track a b) = true
+messageTest t x M.Sellscreen = true
+messageTest t x (M.Cutscene p) = textTest t p
+messageTest t x (M.Update u) = updateTest u

@@ -1,0 +1,312 @@
+-- `allowed::is_allowed` meets its contract: each arm answers its message's test, which says what the layout allows, since each number of
+-- a message fits its type.
+-- Assumes nothing.
+use mathlib.Core.Path.{_≡_, refl, sym, ap, _∙_}
+use mathlib.Core.List.{List, [], _∷_}
+use mathlib.Core.Logic.{⊎-elim}
+use mathlib.Core.Bool.{Bool, true}
+use Prim.Native.Nat.{ℕ}
+use lib.Dec.{ltb}
+use denote.Enum.Declared.{tagOf}
+use denote.Enum.Laws.{owed}
+use types.Run.{OneOf, miss}
+use Rattle.dem.specs.Layout.{allows}
+use Rattle.dem.specs.Message.{layout}
+use Rattle.message.specs.Values.{valuesBy}
+use Rattle.message.specs.declared.Entity.{Entity}
+use Rattle.message.specs.declared.Player.{Player}
+use Rattle.message.specs.declared.Message.{Message}
+use Rattle.message.specs.declared.Message.the-variants as M
+use Rattle.message.proofs.Message as MessageType
+use Rattle.message.proofs.Message.Laws as MessageLaws
+use Rattle.parts.specs.Kinds.{contextOf}
+use Rattle.parts.specs.declared.Context.{Context}
+use Rattle.allowed.specs.Placed.{placed}
+use Rattle.allowed.specs.Tests.{textTest, messageTest}
+use Rattle.allowed.proofs.MaskTests.{also}
+use Rattle.allowed.proofs.Messages.{message-law}
+use borrow.Author.Needs.{needs}
+use Rattle.allowed.proofs.is_allowed.Statement.{statement}
+use Rattle.allowed.proofs.is_allowed.Tie as tie
+
+-- The answer of an arm.
+answered : (s : tie.Start) (m : Message) (r : Bool) → s .args .m ≡ m → r ≡ messageTest (s .args .text .now) (s .args .x) m
+    → r ≡ allows (layout (contextOf (s .args .x))) (valuesBy (placed (s .args .text .now)) (s .args .m))
+answered s m r e p =
+    p ∙ sym (ap (messageTest (s .args .text .now) (s .args .x)) e)
+    ∙ message-law (s .args .text .now) (s .args .x) (s .args .m)
+    (owed MessageType.the-type MessageLaws.the-laws (s .args .m) _ (s .good .0))
+
+-- The messages with nothing to test.
+abbrev free : List ℕ
+free = 0 ∷ 1 ∷ 9 ∷ 17 ∷ 18 ∷ 22 ∷ 23 ∷ 25 ∷ 26 ∷ 27 ∷ 28 ∷ 30 ∷ 31 ∷ []
+
+untested : (t : List ℕ) (x : Context) (m : Message) → OneOf free (tagOf MessageType.the-type m) → true ≡ messageTest t x m
+unfolding messageTest
+untested t x M.Nop h = refl
+untested t x M.Disconnect h = refl
+untested t x (M.Stat a b) h = absurd (miss free 2 tt h)
+untested t x (M.Version a) h = absurd (miss free 3 tt h)
+untested t x (M.View a) h = absurd (miss free 4 tt h)
+untested t x (M.Sound a) h = absurd (miss free 5 tt h)
+untested t x (M.Time a) h = absurd (miss free 6 tt h)
+untested t x (M.Print a) h = absurd (miss free 7 tt h)
+untested t x (M.Stufftext a) h = absurd (miss free 8 tt h)
+untested t x (M.SetAngles a b c) h = refl
+untested t x (M.Serverinfo a) h = absurd (miss free 10 tt h)
+untested t x (M.Style a b) h = absurd (miss free 11 tt h)
+untested t x (M.Name a b) h = absurd (miss free 12 tt h)
+untested t x (M.Frags a b) h = absurd (miss free 13 tt h)
+untested t x (M.Clientdata a) h = absurd (miss free 14 tt h)
+untested t x (M.Stopsound a b) h = absurd (miss free 15 tt h)
+untested t x (M.Colours a b) h = absurd (miss free 16 tt h)
+untested t x (M.Particle a) h = refl
+untested t x (M.Damage a b c) h = refl
+untested t x (M.Static a b) h = absurd (miss free 19 tt h)
+untested t x (M.Baseline a b c) h = absurd (miss free 20 tt h)
+untested t x (M.Temporary a) h = absurd (miss free 21 tt h)
+untested t x (M.Pause a) h = refl
+untested t x (M.Signon a) h = refl
+untested t x (M.Centerprint a) h = absurd (miss free 24 tt h)
+untested t x M.Killed h = refl
+untested t x M.Secret h = refl
+untested t x (M.StaticSound a b c d) h = refl
+untested t x M.Intermission h = refl
+untested t x (M.Finale a) h = absurd (miss free 29 tt h)
+untested t x (M.Track a b) h = refl
+untested t x M.Sellscreen h = refl
+untested t x (M.Cutscene a) h = absurd (miss free 32 tt h)
+untested t x (M.Update a) h = absurd (miss free 33 tt h)
+
+enum-known-m : tie.Need-enum-known-m
+enum-known-m c = search needs
+
+enum-known-m-2 : tie.Need-enum-known-m-2
+enum-known-m-2 c = search needs
+
+enum-known-m-3 : tie.Need-enum-known-m-3
+enum-known-m-3 c = search needs
+
+enum-known-m-4 : tie.Need-enum-known-m-4
+enum-known-m-4 c = search needs
+
+enum-known-m-5 : tie.Need-enum-known-m-5
+enum-known-m-5 c = search needs
+
+sound-fits-requires : tie.Need-sound-fits-requires
+sound-fits-requires c κs = search needs
+
+enum-known-m-6 : tie.Need-enum-known-m-6
+enum-known-m-6 c = search needs
+
+time-fits-requires : tie.Need-time-fits-requires
+time-fits-requires c κs = search needs
+
+enum-known-m-7 : tie.Need-enum-known-m-7
+enum-known-m-7 c = search needs
+
+enum-known-m-8 : tie.Need-enum-known-m-8
+enum-known-m-8 c = search needs
+
+enum-known-m-9 : tie.Need-enum-known-m-9
+enum-known-m-9 c = search needs
+
+enum-known-m-10 : tie.Need-enum-known-m-10
+enum-known-m-10 c = search needs
+
+enum-known-m-11 : tie.Need-enum-known-m-11
+enum-known-m-11 c = search needs
+
+enum-known-m-12 : tie.Need-enum-known-m-12
+enum-known-m-12 c = search needs
+
+serverinfo-fits-requires : tie.Need-serverinfo-fits-requires
+serverinfo-fits-requires c κs = search needs
+
+enum-known-m-13 : tie.Need-enum-known-m-13
+enum-known-m-13 c = search needs
+
+text-is-string-requires : tie.Need-text-is-string-requires
+text-is-string-requires c κs = search needs
+
+enum-known-m-14 : tie.Need-enum-known-m-14
+enum-known-m-14 c = search needs
+
+text-is-string-requires-2 : tie.Need-text-is-string-requires-2
+text-is-string-requires-2 c κs = search needs
+
+enum-known-m-15 : tie.Need-enum-known-m-15
+enum-known-m-15 c = search needs
+
+enum-known-m-16 : tie.Need-enum-known-m-16
+enum-known-m-16 c = search needs
+
+enum-known-m-17 : tie.Need-enum-known-m-17
+enum-known-m-17 c = search needs
+
+clientdata-fits-requires : tie.Need-clientdata-fits-requires
+clientdata-fits-requires c κs = search needs
+
+enum-known-m-18 : tie.Need-enum-known-m-18
+enum-known-m-18 c = search needs
+
+source-fits-requires : tie.Need-source-fits-requires
+source-fits-requires c κs = search needs
+
+enum-told : tie.Need-enum-told
+enum-told c = search needs
+
+enum-known-m-19 : tie.Need-enum-known-m-19
+enum-known-m-19 c = search needs
+
+temporary-fits-requires : tie.Need-temporary-fits-requires
+temporary-fits-requires c κs = search needs
+
+enum-known-m-20 : tie.Need-enum-known-m-20
+enum-known-m-20 c = search needs
+
+update-fits-requires : tie.Need-update-fits-requires
+update-fits-requires c κs = search needs
+
+text-is-string-requires-3 : tie.Need-text-is-string-requires-3
+text-is-string-requires-3 c κs = search needs
+
+returns : tie.Need-returns
+unfolding messageTest
+returns c = answered (c .before .before .before .before) (M.Stat _ _) _ (c .before .m .given .1) refl
+
+returns-2 : tie.Need-returns-2
+unfolding messageTest
+returns-2 c = answered (c .before .before .before .before) (M.Version _) _ (c .before .m2 .given .1) refl
+
+returns-3 : tie.Need-returns-3
+unfolding messageTest
+returns-3 c = answered (c .before .before .before .before .before) (M.Sound _) _ (c .before .before .m5 .given .1) (c .sound-fits .ensures)
+
+returns-4 : tie.Need-returns-4
+unfolding messageTest
+returns-4 c = answered (c .before .before .before .before .before) (M.Time _) _ (c .before .before .m6 .given .1) (c .time-fits .ensures)
+
+returns-5 : tie.Need-returns-5
+unfolding messageTest
+returns-5 c = answered (c .before .before .before .before .before) (M.Serverinfo _) _ (c .before .before .m12 .given .1) (c .serverinfo-fits .ensures)
+
+returns-6 : tie.Need-returns-6
+unfolding messageTest
+returns-6 c =
+    let m = c .before .before .m13 .given in
+    answered (c .before .before .before .before .before) (M.Style _ _) _ (m .1) (also (ltb (m .0 .0) 64) (c .text-is-string .ensures))
+
+returns-7 : tie.Need-returns-7
+unfolding messageTest
+returns-7 c =
+    let s = c .before .before .before .before .before .before .before in
+    let m = c .before .before .before .before .m14 .given in
+    answered s (M.Name _ _) _ (m .1) (also (ltb (m .0 .0 .0) (s .args .x .limit)) (c .text-is-string2 .ensures))
+
+returns-8 : tie.Need-returns-8
+unfolding messageTest
+returns-8 c = answered (c .before .before .before .before .before) (M.Clientdata _) _ (c .before .before .m17 .given .1) (c .clientdata-fits .ensures)
+
+returns-9 : tie.Need-returns-9
+unfolding messageTest
+returns-9 c = answered (c .before .before .before .before .before) (M.Stopsound _ _) _ (c .before .before .m18 .given .1) (c .source-fits .ensures)
+
+returns-10 : tie.Need-returns-10
+unfolding messageTest
+returns-10 c = answered (c .before .before .before .before) (M.Static _ _) _ (c .before .enum-told .given .1) refl
+
+returns-11 : tie.Need-returns-11
+unfolding messageTest
+returns-11 c = answered (c .before .before .before .before .before) (M.Temporary _) _ (c .before .before .m19 .given .1) (c .temporary-fits .ensures)
+
+returns-12 : tie.Need-returns-12
+unfolding messageTest
+returns-12 c = answered (c .before .before .before .before .before) (M.Update _) _ (c .before .before .m20 .given .1) (c .update-fits .ensures)
+
+returns-13 : tie.Need-returns-13
+unfolding messageTest
+returns-13 c =
+    let s = c .before .before in
+    answered s (s .args .m) true refl (untested (s .args .text .now) (s .args .x) (s .args .m) (c .match .keys22))
+
+returns-14 : tie.Need-returns-14
+unfolding messageTest
+returns-14 c =
+    let s = c .before .before .before .before in
+    let test : Player → Bool = λ p. ltb (p .0) (s .args .x .limit) in
+    ⊎-elim (λ w. answered s (M.Frags _ _) _ (w .1 .given .1) (ap test (w .3))) (λ w. answered s (M.Colours _ _) _ (w .1 .given .1) (ap test (w .3)))
+    (c .before .before .match .came)
+
+returns-15 : tie.Need-returns-15
+unfolding messageTest
+returns-15 c =
+    let s = c .before .before .before in
+    let test = textTest (s .args .text .now) in
+    let e = c .text-is-string3 .ensures in
+    ⊎-elim (λ w. answered s (M.Print _) _ (w .1 .given .1) (e ∙ ap test (w .3)))
+    (⊎-elim (λ w. answered s (M.Stufftext _) _ (w .1 .given .1) (e ∙ ap test (w .3)))
+    (⊎-elim (λ w. answered s (M.Centerprint _) _ (w .1 .given .1) (e ∙ ap test (w .3)))
+    (⊎-elim (λ w. answered s (M.Finale _) _ (w .1 .given .1) (e ∙ ap test (w .3)))
+    (λ w. answered s (M.Cutscene _) _ (w .1 .given .1) (e ∙ ap test (w .3))))))
+    (c .before .match .came)
+
+returns-16 : tie.Need-returns-16
+unfolding messageTest
+returns-16 c =
+    let s = c .before .before .before in
+    let test : Entity → Bool = λ e. ltb (e .0) 449 in
+    ⊎-elim (λ w. answered s (M.View _) _ (w .1 .given .1) (ap test (w .3))) (λ w. answered s (M.Baseline _ _ _) _ (w .1 .given .1) (ap test (w .3)))
+    (c .before .match .came)
+
+pub is-allowed-spec : {M : Type 1} → statement M
+is-allowed-spec =
+    tie.close
+    (tie.spec
+    enum-known-m
+    enum-known-m-2
+    enum-known-m-3
+    enum-known-m-4
+    enum-known-m-5
+    sound-fits-requires
+    enum-known-m-6
+    time-fits-requires
+    enum-known-m-7
+    enum-known-m-8
+    enum-known-m-9
+    enum-known-m-10
+    enum-known-m-11
+    enum-known-m-12
+    serverinfo-fits-requires
+    enum-known-m-13
+    text-is-string-requires
+    enum-known-m-14
+    text-is-string-requires-2
+    enum-known-m-15
+    enum-known-m-16
+    enum-known-m-17
+    clientdata-fits-requires
+    enum-known-m-18
+    source-fits-requires
+    enum-told
+    enum-known-m-19
+    temporary-fits-requires
+    enum-known-m-20
+    update-fits-requires
+    text-is-string-requires-3
+    returns
+    returns-2
+    returns-3
+    returns-4
+    returns-5
+    returns-6
+    returns-7
+    returns-8
+    returns-9
+    returns-10
+    returns-11
+    returns-12
+    returns-13
+    returns-14
+    returns-15
+    returns-16)

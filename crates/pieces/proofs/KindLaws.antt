@@ -1,10 +1,10 @@
 -- What a layout allows of a message says its kind: an update's number is one of an update's, a temporary entity's type is that of its
 -- shape.
 -- Assumes nothing.
-use mathlib.Core.Path.{_≡_, refl, sym, ap, _∙_, subst}
+use mathlib.Core.Path.{_≡_, refl, sym, ap, _∙_, subst, subst₂}
 use mathlib.Core.List.{List, [], _∷_, _++_, append-nil}
 use mathlib.Core.Bool.{Bool, true, false, cond, _&&_}
-use Prim.Native.Nat.{ℕ, zero, suc, _+_, _<_, _≤_}
+use Prim.Native.Nat.{ℕ, zero, suc, _+_, _<_}
 use native.Mathlib.Omega.{arith}
 use borrow.Author.Tests.{eqb-true, ltb-true}
 use lib.Dec.{eqb, ltb, lit<}
@@ -198,9 +198,9 @@ Written ps m =
     (x : Context) (t : List ℕ) → allows (layout x) (valuesBy (textIn t) m) ≡ true → Closed t m
     → bytesOf t ps ≡ print (layout x) (valuesBy (textIn t) m)
 
--- Of a message that is known to be this one.
-pub arm : {m n : Message} (ps : List Piece) → m ≡ n → Written ps n → Written ps m
-arm ps e w = subst (Written ps) (sym e) w
+-- A message and pieces that are known to be these.
+pub arm : {m n : Message} {ps qs : List Piece} → m ≡ n → ps ≡ qs → Written qs n → Written ps m
+arm e f w = subst₂ Written (sym f) (sym e) w
 
 -- ---- serverinfo
 

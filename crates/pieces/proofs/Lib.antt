@@ -3,3 +3,4 @@ pub mod RoomLaws
 pub mod PrintLaws
 pub mod KindLaws
 pub mod ListLaws
+pub mod SizeLaws

@@ -9,7 +9,7 @@ use lib.Signed.{mag}
 use mir.Syntax.{Width}
 use mir.Val.{toZ, ofZ, hbits, SFits}
 use Rattle.dem.specs.Bytes.{leWrite, isSet, bit}
-use Rattle.dem.specs.Layout.{Value, number, text, Layout, done, field, split, string, print}
+use Rattle.dem.specs.Layout.{Value, number, Layout, done, field, split, print}
 use Rattle.dem.proofs.ByteLaws.{bit-div}
 use Rattle.wire.proofs.SignedLaws.{same-bits}
 use Rattle.pieces.specs.declared.Piece.{Piece}

@@ -3,14 +3,13 @@
 use mathlib.Core.Path.{_≡_, refl, ap, sym, _∙_, subst}
 use mathlib.Core.Bool.{Bool, true, false, cond}
 use borrow.Author.Tests.{le-ltb, ltb-true}
-use Prim.Native.Nat.{ℕ, zero, suc, _+_, _-_, _^_, _≤_, _<_}
+use Prim.Native.Nat.{ℕ, suc, _+_, _-_, _^_}
 use native.Mathlib.Omega.{arith}
-use native.Mathlib.Nat.{zero-add}
 use lib.Dec.{T}
 use lib.IntN.{ℤ, pos, negsuc, natAbs, _-ℤ_}
 use lib.Signed.{ltZ, nonNeg}
 use mir.Syntax.{Width}
-use mir.Val.{toZ, ofZ, bits, hbits, SFits, Fits}
+use mir.Val.{toZ, ofZ, bits, SFits, Fits}
 use mir.ValLaws.{toZ-ofZ, half-full}
 use Rattle.dem.proofs.ResultLaws.{clash}
 

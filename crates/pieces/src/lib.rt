@@ -154,6 +154,15 @@ fn numbers(n: u8, w0: usize, v0: u32, w1: usize, v1: u32, w2: usize, v2: u32) ->
     Pieces { items, count: 4 }
 }
 
+fn angles(a: i8, b: i8, c: i8) -> Pieces
+    ensures { λ r. ⌜ listOf r ≡ (numberPiece 1 10 ∷ numberPiece 1 (ofZ w8 a) ∷ numberPiece 1 (ofZ w8 b) ∷ numberPiece 1 (ofZ w8 c) ∷ []) ⌝ }
+{
+    let x = unsigned8(a) as u32;
+    let y = unsigned8(b) as u32;
+    let z = unsigned8(c) as u32;
+    numbers(10, 1, x, 1, y, 1, z)
+}
+
 // A text, then `width` zeros: a string, or serverinfo's lists with their closing empty names.
 fn text(t: Text, width: usize) -> Piece
     ensures { λ r. ⌜ r ≡ textPiece t width ⌝ }
@@ -389,15 +398,7 @@ pub fn pieces_of(m: Message) -> Pieces
         Message::Time(v) => numbers(7, 4, v, 0, 0, 0, 0),
         Message::Print(t) => with_string(8, 0, 0, t),
         Message::Stufftext(t) => with_string(9, 0, 0, t),
-        Message::SetAngles(a, b, c) => numbers(
-            10,
-            1,
-            unsigned8(a) as u32,
-            1,
-            unsigned8(b) as u32,
-            1,
-            unsigned8(c) as u32,
-        ),
+        Message::SetAngles(a, b, c) => angles(a, b, c),
         Message::Serverinfo(s) => serverinfo(s),
         Message::Style(i, t) => with_string(12, 1, i as u32, t),
         Message::Name(p, t) => with_string(13, 1, p.0 as u32, t),

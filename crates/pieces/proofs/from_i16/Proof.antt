@@ -1,10 +1,10 @@
 -- `pieces::from_i16` meets its contract.
 -- Assumes nothing.
-use mathlib.Core.Path.{refl, ap, _∙_}
+use mathlib.Core.Path.{ap, _∙_}
 use mir.Syntax.{w16}
 use borrow.Author.Needs.{needs}
-use Rattle.wire.proofs.SignedLaws.{same-bits}
 use Rattle.pieces.specs.Bytes.{numberPiece}
+use Rattle.pieces.proofs.PrintLaws.{handed}
 use Rattle.pieces.proofs.from_i16.Statement.{statement}
 use Rattle.pieces.proofs.from_i16.Tie as tie
 
@@ -18,9 +18,7 @@ number-requires : tie.Need-number-requires
 number-requires c κs = search needs
 
 returns : tie.Need-returns
-returns c =
-    c .number .ensures
-    ∙ ap (numberPiece 2) (c .before .unsigned16 .ensures ∙ same-bits w16 _ _ (c .before .before .fits .z) refl)
+returns c = c .number .ensures ∙ ap (numberPiece 2) (handed w16 _ (c .before .before .fits .z) (c .before .unsigned16 .ensures))
 
 pub from-i16-spec : {M : Type 1} → statement M
 from-i16-spec = tie.close (tie.spec unsigned16-requires cast-number number-requires returns)

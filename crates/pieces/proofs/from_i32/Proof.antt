@@ -1,10 +1,10 @@
 -- `pieces::from_i32` meets its contract.
 -- Assumes nothing.
-use mathlib.Core.Path.{refl, ap, _∙_}
+use mathlib.Core.Path.{ap, _∙_}
 use mir.Syntax.{w32}
 use borrow.Author.Needs.{needs}
-use Rattle.wire.proofs.SignedLaws.{same-bits}
 use Rattle.pieces.specs.Bytes.{numberPiece}
+use Rattle.pieces.proofs.PrintLaws.{handed}
 use Rattle.pieces.proofs.from_i32.Statement.{statement}
 use Rattle.pieces.proofs.from_i32.Tie as tie
 
@@ -15,9 +15,7 @@ number-requires : tie.Need-number-requires
 number-requires c κs = search needs
 
 returns : tie.Need-returns
-returns c =
-    c .number .ensures
-    ∙ ap (numberPiece 4) (c .before .unsigned32 .ensures ∙ same-bits w32 _ _ (c .before .before .fits .z) refl)
+returns c = c .number .ensures ∙ ap (numberPiece 4) (handed w32 _ (c .before .before .fits .z) (c .before .unsigned32 .ensures))
 
 pub from-i32-spec : {M : Type 1} → statement M
 from-i32-spec = tie.close (tie.spec unsigned32-requires number-requires returns)

@@ -1,10 +1,10 @@
 -- `pieces::from_i8` meets its contract.
 -- Assumes nothing.
-use mathlib.Core.Path.{refl, ap, _∙_}
+use mathlib.Core.Path.{ap, _∙_}
 use mir.Syntax.{w8}
 use borrow.Author.Needs.{needs}
-use Rattle.wire.proofs.SignedLaws.{same-bits}
 use Rattle.pieces.specs.Bytes.{numberPiece}
+use Rattle.pieces.proofs.PrintLaws.{handed}
 use Rattle.pieces.proofs.from_i8.Statement.{statement}
 use Rattle.pieces.proofs.from_i8.Tie as tie
 
@@ -15,9 +15,7 @@ from-u8-requires : tie.Need-from-u8-requires
 from-u8-requires c κs = search needs
 
 returns : tie.Need-returns
-returns c =
-    c .from-u8 .ensures
-    ∙ ap (numberPiece 1) (c .before .unsigned8 .ensures ∙ same-bits w8 _ _ (c .before .before .fits .z) refl)
+returns c = c .from-u8 .ensures ∙ ap (numberPiece 1) (handed w8 _ (c .before .before .fits .z) (c .before .unsigned8 .ensures))
 
 pub from-i8-spec : {M : Type 1} → statement M
 from-i8-spec = tie.close (tie.spec unsigned8-requires from-u8-requires returns)

@@ -1,6 +1,6 @@
 -- `pieces::particle` meets its contract.
 -- Assumes nothing.
-use mathlib.Core.Path.{refl, ap, _∙_}
+use mathlib.Core.Path.{ap, _∙_}
 use mir.Syntax.{w8}
 use borrow.Author.Needs.{needs}
 use Rattle.dem.specs.Layout.{print}

@@ -1,14 +1,15 @@
 -- `pieces::pieces_of` meets its contract: each arm's pieces have the bytes that the layout of its number prints. What the layout
 -- allows decides the kind of an update and of a temporary entity, and that serverinfo's names print to their place.
 -- Assumes nothing.
-use mathlib.Core.Path.{ap, _∙_}
+use mathlib.Core.Path.{refl, _∙_}
 use mir.Syntax.{w8, w16, w32}
 use borrow.Author.Needs.{needs}
 use Rattle.dem.specs.Bytes.{writeString}
 use Rattle.dem.specs.Layout.{print}
 use Rattle.dem.specs.Message.{layout, kindLayout}
 use Rattle.dem.proofs.LayoutLaws.{allows→}
-use Rattle.pieces.specs.Bytes.{bytesOf, listOf}
+use Rattle.wire.proofs.SignedLaws.{same-bits}
+use Rattle.pieces.specs.Bytes.{bytesOf}
 use Rattle.pieces.proofs.PrintLaws.{handed}
 use Rattle.pieces.proofs.KindLaws.{arm, update-print, serverinfo-written}
 use Rattle.pieces.proofs.pieces_of.Statement.{statement}
@@ -16,133 +17,153 @@ use Rattle.pieces.proofs.pieces_of.Tie as tie
 
 returns : tie.Need-returns
 unfolding layout kindLayout print bytesOf
-returns c = arm (listOf (c .numbers .result)) (c .before .enum-told .given .1) (λ x t a h. ap (bytesOf t) (c .numbers .ensures))
+returns c = arm (c .before .enum-told .given .1) (c .numbers .ensures) (λ x t a h. refl)
 
 returns-2 : tie.Need-returns-2
 unfolding layout kindLayout print bytesOf
-returns-2 c = arm (listOf (c .numbers2 .result)) (c .before .enum-told2 .given .1) (λ x t a h. ap (bytesOf t) (c .numbers2 .ensures))
+returns-2 c = arm (c .before .enum-told2 .given .1) (c .numbers2 .ensures) (λ x t a h. refl)
 
 returns-3 : tie.Need-returns-3
 unfolding layout kindLayout print bytesOf
-returns-3 c = arm (listOf (c .numbers3 .result)) (c .before .before .before .m .given .1) (λ x t a h. ap (bytesOf t) (c .numbers3 .ensures) ∙ rw (handed w32 (c .before .before .before .m .given .0 .1 .0) (record { sfits = c .before .before .known-told .given .1 .0 .1 }) (c .before .unsigned32 .ensures)))
+returns-3 c =
+    let g = c .before .before .before .m .given in
+    let f = c .before .before .known-told .given in
+    arm (g .1) (c .numbers3 .ensures) (λ x t a h. rw (handed w32 (g .0 .1 .0) (record { sfits = f .1 .0 .1 }) (c .before .unsigned32 .ensures)))
 
 returns-4 : tie.Need-returns-4
 unfolding layout kindLayout print bytesOf
-returns-4 c = arm (listOf (c .numbers4 .result)) (c .before .before .before .m2 .given .1) (λ x t a h. ap (bytesOf t) (c .numbers4 .ensures) ∙ rw (handed w32 (c .before .before .before .m2 .given .0 .0) (record { sfits = c .before .before .known-told2 .given .0 .1 }) (c .before .unsigned322 .ensures)))
+returns-4 c =
+    let g = c .before .before .before .m2 .given in
+    let f = c .before .before .known-told2 .given in
+    arm (g .1) (c .numbers4 .ensures) (λ x t a h. rw (handed w32 (g .0 .0) (record { sfits = f .0 .1 }) (c .before .unsigned322 .ensures)))
 
 returns-5 : tie.Need-returns-5
 unfolding layout kindLayout print bytesOf
-returns-5 c = arm (listOf (c .numbers5 .result)) (c .before .before .before .m3 .given .1) (λ x t a h. ap (bytesOf t) (c .numbers5 .ensures))
+returns-5 c = arm (c .before .before .before .m3 .given .1) (c .numbers5 .ensures) (λ x t a h. refl)
 
 returns-6 : tie.Need-returns-6
-returns-6 c = arm (listOf (c .sound .result)) (c .before .before .m4 .given .1) (λ x t a h. c .sound .ensures x t)
+returns-6 c = arm (c .before .before .m4 .given .1) refl (λ x t a h. c .sound .ensures x t)
 
 returns-7 : tie.Need-returns-7
 unfolding layout kindLayout print bytesOf
-returns-7 c = arm (listOf (c .numbers6 .result)) (c .before .before .m5 .given .1) (λ x t a h. ap (bytesOf t) (c .numbers6 .ensures))
+returns-7 c = arm (c .before .before .m5 .given .1) (c .numbers6 .ensures) (λ x t a h. refl)
 
 returns-8 : tie.Need-returns-8
 unfolding layout kindLayout print bytesOf writeString
-returns-8 c = arm (listOf (c .with-string .result)) (c .before .before .m6 .given .1) (λ x t a h. ap (bytesOf t) (c .with-string .ensures))
+returns-8 c = arm (c .before .before .m6 .given .1) (c .with-string .ensures) (λ x t a h. refl)
 
 returns-9 : tie.Need-returns-9
 unfolding layout kindLayout print bytesOf writeString
-returns-9 c = arm (listOf (c .with-string2 .result)) (c .before .before .m7 .given .1) (λ x t a h. ap (bytesOf t) (c .with-string2 .ensures))
+returns-9 c = arm (c .before .before .m7 .given .1) (c .with-string2 .ensures) (λ x t a h. refl)
 
 returns-10 : tie.Need-returns-10
 unfolding layout kindLayout print bytesOf
-returns-10 c = arm (listOf (c .numbers7 .result)) (c .before .before .before .before .before .m8 .given .1) (λ x t a h. ap (bytesOf t) (c .numbers7 .ensures) ∙ rw (handed w8 (c .before .before .before .before .before .m8 .given .0 .0) (record { sfits = c .before .before .before .before .known-told8 .given .0 .1 }) (c .before .before .before .unsigned8 .ensures), handed w8 (c .before .before .before .before .before .m8 .given .0 .1 .0) (record { sfits = c .before .before .before .before .known-told8 .given .1 .0 .1 }) (c .before .before .unsigned82 .ensures), handed w8 (c .before .before .before .before .before .m8 .given .0 .1 .1 .0) (record { sfits = c .before .before .before .before .known-told8 .given .1 .1 .0 .1 }) (c .before .unsigned83 .ensures)))
+returns-10 c =
+    let g = c .before .before .m8 .given in
+    let f = c .before .known-told8 .given in
+    arm (g .1) (c .angles .ensures) (λ x t a h. rw (
+      same-bits w8 (g .0 .0) _ (record { sfits = f .0 .1 }) refl,
+      same-bits w8 (g .0 .1 .0) _ (record { sfits = f .1 .0 .1 }) refl,
+      same-bits w8 (g .0 .1 .1 .0) _ (record { sfits = f .1 .1 .0 .1 }) refl,
+    ))
 
 returns-11 : tie.Need-returns-11
-returns-11 c = arm (listOf (c .serverinfo .result)) (c .before .before .m9 .given .1) (λ x t a h. ap (bytesOf t) (c .serverinfo .ensures) ∙ serverinfo-written (c .before .before .m9 .given .0 .0) x t a h)
+returns-11 c =
+    let g = c .before .before .m9 .given in
+    arm (g .1) (c .serverinfo .ensures) (serverinfo-written (g .0 .0))
 
 returns-12 : tie.Need-returns-12
 unfolding layout kindLayout print bytesOf writeString
-returns-12 c = arm (listOf (c .with-string3 .result)) (c .before .before .m10 .given .1) (λ x t a h. ap (bytesOf t) (c .with-string3 .ensures))
+returns-12 c = arm (c .before .before .m10 .given .1) (c .with-string3 .ensures) (λ x t a h. refl)
 
 returns-13 : tie.Need-returns-13
 unfolding layout kindLayout print bytesOf writeString
-returns-13 c = arm (listOf (c .with-string4 .result)) (c .before .before .before .m11 .given .1) (λ x t a h. ap (bytesOf t) (c .with-string4 .ensures))
+returns-13 c = arm (c .before .before .before .m11 .given .1) (c .with-string4 .ensures) (λ x t a h. refl)
 
 returns-14 : tie.Need-returns-14
 unfolding layout kindLayout print bytesOf
-returns-14 c = arm (listOf (c .numbers8 .result)) (c .before .before .before .before .m12 .given .1) (λ x t a h. ap (bytesOf t) (c .numbers8 .ensures) ∙ rw (handed w16 (c .before .before .before .before .m12 .given .0 .1 .0) (record { sfits = c .before .before .before .known-told12 .given .1 .0 .1 }) (c .before .unsigned16 .ensures)))
+returns-14 c =
+    let g = c .before .before .before .before .m12 .given in
+    let f = c .before .before .before .known-told12 .given in
+    arm (g .1) (c .numbers7 .ensures) (λ x t a h. rw (handed w16 (g .0 .1 .0) (record { sfits = f .1 .0 .1 }) (c .before .unsigned16 .ensures)))
 
 returns-15 : tie.Need-returns-15
-returns-15 c = arm (listOf (c .clientdata .result)) (c .before .before .m13 .given .1) (λ x t a h. c .clientdata .ensures x t)
+returns-15 c = arm (c .before .before .m13 .given .1) refl (λ x t a h. c .clientdata .ensures x t)
 
 returns-16 : tie.Need-returns-16
 unfolding layout kindLayout print bytesOf
-returns-16 c = arm (listOf (c .numbers9 .result)) (c .before .before .before .m14 .given .1) (λ x t a h. ap (bytesOf t) (c .numbers9 .ensures))
+returns-16 c = arm (c .before .before .before .m14 .given .1) (c .numbers8 .ensures) (λ x t a h. refl)
 
 returns-17 : tie.Need-returns-17
 unfolding layout kindLayout print bytesOf
-returns-17 c = arm (listOf (c .numbers10 .result)) (c .before .before .before .m15 .given .1) (λ x t a h. ap (bytesOf t) (c .numbers10 .ensures))
+returns-17 c = arm (c .before .before .before .m15 .given .1) (c .numbers9 .ensures) (λ x t a h. refl)
 
 returns-18 : tie.Need-returns-18
-returns-18 c = arm (listOf (c .particle .result)) (c .before .before .m16 .given .1) (λ x t a h. c .particle .ensures x t)
+returns-18 c = arm (c .before .before .m16 .given .1) refl (λ x t a h. c .particle .ensures x t)
 
 returns-19 : tie.Need-returns-19
 unfolding layout kindLayout print bytesOf
-returns-19 c = arm (listOf (c .before-vector .result)) (c .before .before .m17 .given .1) (λ x t a h. ap (bytesOf t) (c .before-vector .ensures))
+returns-19 c = arm (c .before .before .m17 .given .1) (c .before-vector .ensures) (λ x t a h. refl)
 
 returns-20 : tie.Need-returns-20
 unfolding layout kindLayout print bytesOf
-returns-20 c = arm (listOf (c .placed .result)) (c .before .before .m18 .given .1) (λ x t a h. ap (bytesOf t) (c .placed .ensures))
+returns-20 c = arm (c .before .before .m18 .given .1) (c .placed .ensures) (λ x t a h. refl)
 
 returns-21 : tie.Need-returns-21
 unfolding layout kindLayout print bytesOf
-returns-21 c = arm (listOf (c .placed2 .result)) (c .before .before .before .m19 .given .1) (λ x t a h. ap (bytesOf t) (c .placed2 .ensures))
+returns-21 c = arm (c .before .before .before .m19 .given .1) (c .placed2 .ensures) (λ x t a h. refl)
 
 returns-22 : tie.Need-returns-22
-returns-22 c = arm (listOf (c .temporary .result)) (c .before .before .m20 .given .1) (λ x t a h. c .temporary .ensures x t a)
+returns-22 c = arm (c .before .before .m20 .given .1) refl (λ x t a h. c .temporary .ensures x t a)
 
 returns-23 : tie.Need-returns-23
 unfolding layout kindLayout print bytesOf
-returns-23 c = arm (listOf (c .numbers11 .result)) (c .before .before .m21 .given .1) (λ x t a h. ap (bytesOf t) (c .numbers11 .ensures))
+returns-23 c = arm (c .before .before .m21 .given .1) (c .numbers10 .ensures) (λ x t a h. refl)
 
 returns-24 : tie.Need-returns-24
 unfolding layout kindLayout print bytesOf
-returns-24 c = arm (listOf (c .numbers12 .result)) (c .before .before .m22 .given .1) (λ x t a h. ap (bytesOf t) (c .numbers12 .ensures))
+returns-24 c = arm (c .before .before .m22 .given .1) (c .numbers11 .ensures) (λ x t a h. refl)
 
 returns-25 : tie.Need-returns-25
 unfolding layout kindLayout print bytesOf writeString
-returns-25 c = arm (listOf (c .with-string5 .result)) (c .before .before .m23 .given .1) (λ x t a h. ap (bytesOf t) (c .with-string5 .ensures))
+returns-25 c = arm (c .before .before .m23 .given .1) (c .with-string5 .ensures) (λ x t a h. refl)
 
 returns-26 : tie.Need-returns-26
 unfolding layout kindLayout print bytesOf
-returns-26 c = arm (listOf (c .numbers13 .result)) (c .before .enum-told3 .given .1) (λ x t a h. ap (bytesOf t) (c .numbers13 .ensures))
+returns-26 c = arm (c .before .enum-told3 .given .1) (c .numbers12 .ensures) (λ x t a h. refl)
 
 returns-27 : tie.Need-returns-27
 unfolding layout kindLayout print bytesOf
-returns-27 c = arm (listOf (c .numbers14 .result)) (c .before .enum-told4 .given .1) (λ x t a h. ap (bytesOf t) (c .numbers14 .ensures))
+returns-27 c = arm (c .before .enum-told4 .given .1) (c .numbers13 .ensures) (λ x t a h. refl)
 
 returns-28 : tie.Need-returns-28
 unfolding layout kindLayout print bytesOf
-returns-28 c = arm (listOf (c .behind-vector .result)) (c .before .before .m24 .given .1) (λ x t a h. ap (bytesOf t) (c .behind-vector .ensures))
+returns-28 c = arm (c .before .before .m24 .given .1) (c .behind-vector .ensures) (λ x t a h. refl)
 
 returns-29 : tie.Need-returns-29
 unfolding layout kindLayout print bytesOf
-returns-29 c = arm (listOf (c .numbers15 .result)) (c .before .enum-told5 .given .1) (λ x t a h. ap (bytesOf t) (c .numbers15 .ensures))
+returns-29 c = arm (c .before .enum-told5 .given .1) (c .numbers14 .ensures) (λ x t a h. refl)
 
 returns-30 : tie.Need-returns-30
 unfolding layout kindLayout print bytesOf writeString
-returns-30 c = arm (listOf (c .with-string6 .result)) (c .before .before .m25 .given .1) (λ x t a h. ap (bytesOf t) (c .with-string6 .ensures))
+returns-30 c = arm (c .before .before .m25 .given .1) (c .with-string6 .ensures) (λ x t a h. refl)
 
 returns-31 : tie.Need-returns-31
 unfolding layout kindLayout print bytesOf
-returns-31 c = arm (listOf (c .numbers16 .result)) (c .before .before .m26 .given .1) (λ x t a h. ap (bytesOf t) (c .numbers16 .ensures))
+returns-31 c = arm (c .before .before .m26 .given .1) (c .numbers15 .ensures) (λ x t a h. refl)
 
 returns-32 : tie.Need-returns-32
 unfolding layout kindLayout print bytesOf
-returns-32 c = arm (listOf (c .numbers17 .result)) (c .before .enum-told6 .given .1) (λ x t a h. ap (bytesOf t) (c .numbers17 .ensures))
+returns-32 c = arm (c .before .enum-told6 .given .1) (c .numbers16 .ensures) (λ x t a h. refl)
 
 returns-33 : tie.Need-returns-33
 unfolding layout kindLayout print bytesOf writeString
-returns-33 c = arm (listOf (c .with-string7 .result)) (c .before .before .m27 .given .1) (λ x t a h. ap (bytesOf t) (c .with-string7 .ensures))
+returns-33 c = arm (c .before .before .m27 .given .1) (c .with-string7 .ensures) (λ x t a h. refl)
 
 returns-34 : tie.Need-returns-34
-returns-34 c = arm (listOf (c .update .result)) (c .before .before .m28 .given .1) (λ x t a h. c .update .ensures t ∙ update-print x (c .before .before .m28 .given .0 .0) (allows→ (layout x) _ a))
+returns-34 c =
+    let g = c .before .before .m28 .given in
+    arm (g .1) refl (λ x t a h. c .update .ensures t ∙ update-print x (g .0 .0) (allows→ (layout x) _ a))
 
 pub pieces-of-spec : {M : Type 1} → statement M
 pieces-of-spec =
@@ -160,12 +181,6 @@ pieces-of-spec =
     (λ c κs. search needs)
     (λ c κs. search needs)
     (λ c. search needs)
-    (λ c. search needs)
-    (λ c κs. search needs)
-    (λ c. search needs)
-    (λ c κs. search needs)
-    (λ c. search needs)
-    (λ c κs. search needs)
     (λ c. search needs)
     (λ c κs. search needs)
     (λ c. search needs)

@@ -96,7 +96,8 @@ returns c =
     let n = c .before .before .least .result in
     let e = pieces-all (a .text .now) (a .p) n (c .before .before .least .ensures) in
     let d = pieces-none (a .text .now) (a .p .items) (l .i) n (search needs) in (
-      sym (ap (sets (l .room) (l .at)) d) ∙ l .inv .5 ∙ ap (sets (a .room .now) 0) e ∙ sets-front (a .room .now) (piecesBytes (a .text .now) (a .p)) (c .before .before .before .before .before .before .pre),
+      sym (ap (sets (l .room) (l .at)) d) ∙ l .inv .5 ∙ ap (sets (a .room .now) 0) e
+          ∙ sets-front (a .room .now) (piecesBytes (a .text .now) (a .p)) (c .before .before .before .before .before .before .pre),
       omega (arith, l .inv .4, ap length e, ap length d),
     )
 

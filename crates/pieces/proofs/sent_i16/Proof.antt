@@ -1,12 +1,12 @@
 -- `pieces::sent_i16` meets its contract.
 -- Assumes nothing.
-use mathlib.Core.Path.{refl, ap, _∙_}
+use mathlib.Core.Path.{ap, _∙_}
 use mathlib.Core.Bool.{cond}
 use mir.Syntax.{w16}
 use borrow.Author.Needs.{needs}
 use Rattle.dem.specs.Bytes.{bit}
-use Rattle.wire.proofs.SignedLaws.{same-bits}
 use Rattle.pieces.specs.Bytes.{numberPiece}
+use Rattle.pieces.proofs.PrintLaws.{handed}
 use Rattle.pieces.proofs.sent_i16.Statement.{statement}
 use Rattle.pieces.proofs.sent_i16.Tie as tie
 
@@ -21,8 +21,9 @@ sent-requires c κs = search needs
 
 returns : tie.Need-returns
 returns c k q =
+    let p = c .before in
     c .sent .ensures k q
-    ∙ ap (numberPiece (cond (bit (c .before .before .args .mask) k) 2 0)) (c .before .unsigned16 .ensures ∙ same-bits w16 _ _ (c .before .before .fits .z) refl)
+    ∙ ap (numberPiece (cond (bit (p .before .args .mask) k) 2 0)) (handed w16 _ (p .before .fits .z) (p .unsigned16 .ensures))
 
 pub sent-i16-spec : {M : Type 1} → statement M
 sent-i16-spec = tie.close (tie.spec unsigned16-requires cast-sent sent-requires returns)

@@ -1,20 +1,21 @@
 -- No message below 128 has as many values as an update: each row has a count of its own, and the four other layouts are too short, too
 -- long, or want a string.
 -- Assumes nothing.
-use mathlib.Core.Path.{_≡_, refl, sym, ap, subst, _∙_}
+use mathlib.Core.Path.{_≡_, refl, sym, ap, subst}
 use mathlib.Core.List.{List, [], _∷_, _++_}
 use mathlib.Core.Bool.{Bool, true, false, cond, not}
-use Prim.Native.Nat.{ℕ, zero, suc, _+_, _<_, _≤_}
+use Prim.Native.Nat.{ℕ, _+_}
 use native.Mathlib.Omega.{arith}
-use borrow.Author.Tests.{eqb-true, eqb-false, leb-true, leb-false, not-true, eq-eqb}
+use borrow.Author.Tests.{eqb-true, eqb-false, leb-true, leb-false, not-true}
 use lib.Dec.{leb, eqb}
 use lib.ListN.{length, getD, List·getD-eq-default}
 use Rattle.dem.specs.Kind
 use Rattle.dem.specs.Limits.{nameLimit}
-use Rattle.dem.specs.Layout.{Value, number, text, Layout, done, field, split, string}
+use Rattle.dem.specs.Layout.{Value, number, text, Layout, done, field, split, string, tail}
 use Rattle.dem.specs.Scene.{Context}
 use Rattle.dem.specs.Message.{Field, byte, short, long, chars, entity, player, statIndex, style, version, limit, channelEntity, timeBits}
-use Rattle.dem.specs.Message.{entityRule, row, rows, vector, isUpdate, kindLayout, updateLayout, soundLayout, clientLayout, temporaryLayout, isPoint, names}
+use Rattle.dem.specs.Message.{entityRule, row, rows, vector, isUpdate, kindLayout, updateLayout, soundLayout, clientLayout}
+use Rattle.dem.specs.Message.{temporaryLayout, isPoint, names}
 use Rattle.dem.proofs.ResultLaws.{clash}
 use Rattle.dem.proofs.LayoutLaws.{Allowed}
 use Rattle.plain.proofs.Types.{in-run}
@@ -98,8 +99,7 @@ module _ (c : Context) (a0 a1 a2 a3 a4 a5 a6 a7 a8 a9 a10 a11 a12 : ℕ) where
       number a0 ∷ number a1 ∷ number a2 ∷ number a3 ∷ number a4 ∷ number a5 ∷ number a6 ∷ number a7 ∷ number a8 ∷ number a9 ∷ number a10
       ∷ number a11 ∷ number a12 ∷ []
 
-  two-kinds : (b : Bool) → Allowed (cond b (row c vector done) (row c (entity ∷ vector ++ vector) done)) (number a1 ∷ number a2 ∷ number a3 ∷ number a4 ∷ number a5 ∷ number a6 ∷ number a7 ∷ number a8 ∷ number a9 ∷ number a10
-      ∷ number a11 ∷ number a12 ∷ []) → ⊥
+  two-kinds : (b : Bool) → Allowed (cond b (row c vector done) (row c (entity ∷ vector ++ vector) done)) (tail values) → ⊥
   two-kinds true h = h .2 .2 .2
   two-kinds false h = h .2 .2 .2 .2 .2 .2 .2
 

@@ -4,7 +4,7 @@
 use mathlib.Core.List.{List, [], _∷_, _++_}
 use Prim.Native.Nat.{ℕ, _<_, _^_}
 use lib.IntN.{ℤ}
-use mir.Syntax.{Width, w8, w16, w32}
+use mir.Syntax.{Width, w8, w16}
 use lib.Signed.{mag}
 use mir.Val.{Val, ofZ, bits, hbits}
 use mir.ValLaws.{ofZ-fits}
@@ -21,7 +21,6 @@ use Rattle.message.specs.declared.Motion.{Motion}
 use Rattle.message.specs.declared.Arms.{Arms}
 use Rattle.message.specs.declared.Supplies.{Supplies}
 use Rattle.message.specs.declared.Particle.{Particle}
-use Rattle.message.specs.declared.Temporary.{Temporary}
 use Rattle.message.specs.declared.Message.{Message}
 use Rattle.message.proofs.Vector as VectorType
 use Rattle.message.proofs.Look as LookType

@@ -4,12 +4,11 @@ use mathlib.Core.Path.{_≡_, refl, sym, ap, ap₂, _∙_}
 use mathlib.Core.List.{List, [], _∷_, _++_, append-nil}
 use mathlib.Core.Bool.{Bool, true, false, cond, not, _&&_, _||_, and-true, and-false, or-false, Bool·not-not}
 use mathlib.Core.Option.{some, none}
-use Prim.Native.Nat.{ℕ, suc, _+_, _<_, _≤_, _^_}
+use Prim.Native.Nat.{ℕ, _+_, _<_, _^_}
 use native.Mathlib.Omega.{arith}
-use borrow.Author.Tests.{eqb-true, ne-eqb, leb-true, leb-false, lt-ltb, not-true}
+use borrow.Author.Tests.{ne-eqb, leb-true, leb-false, not-true}
 use lib.Dec.{leb, ltb, eqb, lit<}
 use lib.ListN.{take, drop}
-use lib.IntN.{ℤ}
 use mir.Val.{Val, ofZ}
 use mir.Syntax.{w8, w16, w32}
 use denote.Laws.{Is}
@@ -24,10 +23,9 @@ use Rattle.dem.specs.Layout.{Value, number, text, Layout, done, field, split, s
 use Rattle.dem.specs.Masked.{Mask, slotLayout, anySet}
 use Rattle.dem.specs.Scene.{Context as Numbers, zeroBaseline, isTime}
 use Rattle.dem.specs.Message.{row, soundSlots, soundTail, clientSlots, clientTail, updateSlots, updateMask, updateLayout, numberRule, isUpdate}
-use Rattle.dem.specs.Message.{equals, between, highRule, entityLayout, isMessage, isPoint, isLine, names, notBefore, kindLayout, layout, entityRule, vector, entity}
+use Rattle.dem.specs.Message.{equals, between, highRule, entityLayout, isPoint, isLine, names, notBefore, kindLayout, layout, entityRule, entity}
 use Rattle.dem.proofs.RangeLaws.{time-bits}
 use Rattle.dem.proofs.ResultLaws.{clash}
-use Rattle.dem.proofs.LayoutLaws.{Allowed}
 use Rattle.message.specs.Values.{short, long, char, valuesBy, vectorValues, lookValues, poseValues, soundValues, temporaryValues, serverinfoValues}
 use Rattle.message.specs.Values.{motionValues, armsValues, suppliesValues, clientValues, updateValues}
 use Rattle.message.specs.declared.Vector.{Vector}
@@ -57,10 +55,12 @@ use Rattle.parts.specs.declared.Context.{Context}
 use Rattle.plain.proofs.Rules.{not-below}
 use Rattle.plain.proofs.Types.{in-run, none-is-point}
 use Rattle.allowed.specs.Placed.{placed}
-use Rattle.allowed.specs.Tests.{slotTest, motionTest, armsTest, lookTest, poseTest, textTest, listsTest, sourceTest, soundTest, timeTest, serverinfoTest, clientTest}
-use Rattle.allowed.specs.Tests.{temporaryTest, sentTest, updateTest, messageTest}
-use Rattle.allowed.proofs.Steps.{met, field-step, ruled-step, sent-step, entity-step, split-step, string-step, Wide, run, run-step, slots-step, refuted}
-use Rattle.allowed.proofs.Fits.{Fit, signed, vector-wide, look-wide, pose-wide, motion-wide, arms-wide, supplies-wide, both-wide, particle-wide}
+use Rattle.allowed.specs.Tests.{slotTest, motionTest, armsTest, lookTest, poseTest, listsTest, sourceTest, soundTest, timeTest}
+use Rattle.allowed.specs.Tests.{serverinfoTest, clientTest, temporaryTest, sentTest, updateTest, messageTest}
+use Rattle.allowed.proofs.Steps.{met, field-step, ruled-step, sent-step, entity-step, split-step, string-step, Wide}
+use Rattle.allowed.proofs.Steps.{run, run-step, slots-step, refuted}
+use Rattle.allowed.proofs.Fits.{Fit, signed, vector-wide, look-wide, pose-wide, motion-wide, arms-wide, supplies-wide}
+use Rattle.allowed.proofs.Fits.{both-wide, particle-wide}
 use Rattle.allowed.proofs.Counts.{never}
 
 -- ---- behind the number
@@ -93,7 +93,8 @@ string-field t = string-step true done t [] ∙ and-true (stringBytes stringLimi
 
 -- A rule, then a string.
 ruled-string : (good : ℕ → Bool) (v : ℕ) (t : List ℕ) → v < 256
-    → allows (field 1 (λ v. unless (good v) wrongNumber) (λ v. string free (λ t. done))) (number v ∷ text t ∷ []) ≡ (good v && stringBytes stringLimit t)
+    → allows (field 1 (λ v. unless (good v) wrongNumber) (λ v. string free (λ t. done))) (number v ∷ text t ∷ [])
+    ≡ (good v && stringBytes stringLimit t)
 ruled-string good v t h =
     ruled-step true 1 good wrongNumber (λ v. string free (λ t. done)) v (text t ∷ []) h (lit< tt)
     ∙ ap (λ (b : Bool). good v && b) (string-field t)
@@ -117,7 +118,8 @@ sound-law c s vs p =
     let rest : List Value = number (s .channel) ∷ number (s .entity .0) ∷ number (s .sound) ∷ vectorValues (s .origin) in
     let slots : List Value = number (s .volume) ∷ number (s .attenuation) ∷ [] in
     let sent : Bool = ltb m 4 && slotTest true soundSlots (bit m) slots in
-    ruled-step true 1 (λ m. not (anySet (2 ∷ 3 ∷ 4 ∷ 5 ∷ 6 ∷ 7 ∷ []) (bit m))) reservedBit (λ m. slotLayout soundSlots (bit m) (row c soundTail done)) m
+    ruled-step true 1 (λ m. not (anySet (2 ∷ 3 ∷ 4 ∷ 5 ∷ 6 ∷ 7 ∷ []) (bit m))) reservedBit
+    (λ m. slotLayout soundSlots (bit m) (row c soundTail done)) m
     (slots ++ rest) (f .0 .1) (lit< tt)
     ∙ ap (λ (b : Bool). b && allows (slotLayout soundSlots (bit m) (row c soundTail done)) (slots ++ rest)) (small-mask m (f .0 .1))
     ∙ slots-step (ltb m 4) soundSlots (bit m) (row c soundTail done) slots rest (f .1 .0 .1, (f .1 .1 .0 .1, tt))
@@ -207,7 +209,8 @@ module _ (c : Numbers) (k : ℕ) (v : Vector) (h : k < 256) (f : Wide (2 ∷ 2 �
   lineLayout : Layout
   lineLayout = field 2 entityRule (λ v. run (2 ∷ 2 ∷ 2 ∷ 2 ∷ 2 ∷ 2 ∷ []) done)
 
-  typed : (vs : List Value) → allows (kindLayout c Kind.temporary) (number k ∷ vs) ≡ ((isPoint k || isLine k) && allows (cond (isPoint k) pointLayout lineLayout) vs)
+  typed : (vs : List Value) → allows (kindLayout c Kind.temporary) (number k ∷ vs)
+      ≡ ((isPoint k || isLine k) && allows (cond (isPoint k) pointLayout lineLayout) vs)
   unfolding kindLayout pointLayout lineLayout
   typed vs = ruled-step true 1 (λ k. isPoint k || isLine k) wrongNumber (λ k. cond (isPoint k) pointLayout lineLayout) k vs h (lit< tt)
 
@@ -228,7 +231,9 @@ module _ (c : Numbers) (k : ℕ) (v : Vector) (h : k < 256) (f : Wide (2 ∷ 2 �
       vs : List Value
       vs = number e ∷ (vectorValues v ++ vectorValues w)
 
-      go : (b : Bool) → isPoint k ≡ b → ((b || isLine k) && allows (cond b pointLayout lineLayout) (number e ∷ (vectorValues v ++ vectorValues w))) ≡ (isLine k && ltb e entityCount)
+      go : (b : Bool) → isPoint k ≡ b
+          → ((b || isLine k) && allows (cond b pointLayout lineLayout) (number e ∷ (vectorValues v ++ vectorValues w)))
+          ≡ (isLine k && ltb e entityCount)
       go true p =
           sym (refuted pointLayout (number e ∷ (vectorValues v ++ vectorValues w)) (λ a. a .2 .2 .2))
           ∙ sym (ap (λ (b : Bool). b && ltb e entityCount) (apart k p))
@@ -275,7 +280,10 @@ chosen false k l e = clash (cc)
 
 update-number : (c : Numbers) (n : ℕ) → isUpdate n ≡ true → numberRule c n ≡ 0
 update-number c n e =
-    ap₂ (λ (a b : Bool). cond (a || (leb 1 n && leb n Kind.last && not (eqb n 21))) (unless (not (b && leb staticLimit (c .statics))) wrongNumber) (code unknownMessage)) e
+    ap₂
+    (λ (a b : Bool). cond (a || (leb 1 n && leb n Kind.last && not (eqb n 21)))
+    (unless (not (b && leb staticLimit (c .statics))) wrongNumber) (code unknownMessage))
+    e
     (ne-eqb n Kind.static (λ z. omega (arith, leb-true Kind.update n e)))
 
 update-fields : (u : Update) (vs : List Val) → Is (rowOf UpdateType.the-type) u vs
@@ -298,10 +306,13 @@ update-fields u vs p =
     ∙ ap (λ (b : Bool). high && b && allows (entityLayout n h) (number (u .entity .0) ∷ shown))
     (met (not (anySet (7 ∷ []) (bit h))) reservedBit (lit< tt) ∙ ap not (or-false (bit h 7)))
     ∙ entity-step clear (bit h 6) (λ e. slotLayout (updateSlots zeroBaseline) mask done) (u .entity .0) shown (f .1 .1 .0 .1 .1 .0 .1)
-    ∙ slots-step named (take 4 (drop 0 (updateSlots zeroBaseline))) mask effects (lookValues (u .look)) (number (u .effects) ∷ poseValues (u .pose))
+    ∙ slots-step named (take 4 (drop 0 (updateSlots zeroBaseline))) mask effects (lookValues (u .look))
+    (number (u .effects) ∷ poseValues (u .pose))
     (look-wide (u .look) _ (f .1 .1 .1 .0))
-    ∙ slots-step looks (take 1 (drop 4 (updateSlots zeroBaseline))) mask pose (number (u .effects) ∷ []) (poseValues (u .pose)) (f .1 .1 .1 .1 .0 .1, tt)
-    ∙ slots-step glows (take 6 (drop 5 (updateSlots zeroBaseline))) mask done (poseValues (u .pose)) [] (pose-wide (u .pose) _ (f .1 .1 .1 .1 .1 .0))
+    ∙ slots-step looks (take 1 (drop 4 (updateSlots zeroBaseline))) mask pose (number (u .effects) ∷ []) (poseValues (u .pose))
+    (f .1 .1 .1 .1 .0 .1, tt)
+    ∙ slots-step glows (take 6 (drop 5 (updateSlots zeroBaseline))) mask done (poseValues (u .pose)) []
+    (pose-wide (u .pose) _ (f .1 .1 .1 .1 .1 .0))
     ∙ and-true (glows && slotTest true (take 6 (drop 5 (updateSlots zeroBaseline))) mask (poseValues (u .pose)))
 
 update-law : (c : Numbers) (u : Update) (vs : List Val) → Is (rowOf UpdateType.the-type) u vs → updateTest u ≡ allows (layout c) (updateValues u)
@@ -312,7 +323,8 @@ update-law c u vs p = go (isUpdate (u .number)) refl
     go false e = refuted (layout c) (updateValues u) (λ a. never c _ _ _ _ _ _ _ _ _ _ _ _ _ (u .number) e (a .2))
     go true e =
         behind c (u .number) (tail (updateValues u)) (sentTest u) (p .1 .1 .0 .1) (update-number c (u .number) e)
-        (ap (λ (l : Layout). allows l (tail (updateValues u))) (chosen (isUpdate (u .number)) (updateLayout (u .number)) _ e) ∙ update-fields u vs p)
+        (ap (λ (l : Layout). allows l (tail (updateValues u))) (chosen (isUpdate (u .number)) (updateLayout (u .number)) _ e)
+        ∙ update-fields u vs p)
 
 -- ---- every message
 
@@ -333,7 +345,8 @@ message-law t x (M.Print p) f = behind (contextOf x) 8 _ _ (lit< tt) refl (strin
 message-law t x (M.Stufftext p) f = behind (contextOf x) 9 _ _ (lit< tt) refl (string-field (placed t p))
 message-law t x (M.SetAngles a b c) f =
     behind (contextOf x) 10 _ _ (lit< tt) refl
-    (free-fields (1 ∷ 1 ∷ 1 ∷ []) (char a ∷ char b ∷ char c ∷ []) (signed w8 a (f .0 .1), (signed w8 b (f .1 .0 .1), (signed w8 c (f .1 .1 .0 .1), tt))))
+    (free-fields (1 ∷ 1 ∷ 1 ∷ []) (char a ∷ char b ∷ char c ∷ [])
+    (signed w8 a (f .0 .1), (signed w8 b (f .1 .0 .1), (signed w8 c (f .1 .1 .0 .1), tt))))
 message-law t x (M.Serverinfo s) f = behind (contextOf x) Kind.serverinfo _ _ (lit< tt) refl (serverinfo-law (contextOf x) t s _ (f .0))
 message-law t x (M.Style i p) f = behind (contextOf x) 12 _ _ (lit< tt) refl (ruled-string (λ v. ltb v styleCount) i (placed t p) (f .0 .1))
 message-law t x (M.Name p n) f =
@@ -370,7 +383,9 @@ message-law t x (M.StaticSound v a b c) f =
     (f .1 .0 .1, (f .1 .1 .0 .1, (f .1 .1 .1 .0 .1, tt)))))
 message-law t x M.Intermission f = behind (contextOf x) 30 _ _ (lit< tt) refl (free-fields [] [] tt)
 message-law t x (M.Finale p) f = behind (contextOf x) 31 _ _ (lit< tt) refl (string-field (placed t p))
-message-law t x (M.Track a b) f = behind (contextOf x) 32 _ _ (lit< tt) refl (free-fields (1 ∷ 1 ∷ []) (number a ∷ number b ∷ []) (f .0 .1, (f .1 .0 .1, tt)))
+message-law t x (M.Track a b) f =
+    behind (contextOf x) 32 _ _ (lit< tt) refl
+    (free-fields (1 ∷ 1 ∷ []) (number a ∷ number b ∷ []) (f .0 .1, (f .1 .0 .1, tt)))
 message-law t x M.Sellscreen f = behind (contextOf x) 33 _ _ (lit< tt) refl (free-fields [] [] tt)
 message-law t x (M.Cutscene p) f = behind (contextOf x) 34 _ _ (lit< tt) refl (string-field (placed t p))
 message-law t x (M.Update u) f = update-law (contextOf x) u _ (f .0)

@@ -5,13 +5,12 @@
 use mathlib.Core.Path.{_≡_, refl, sym, ap, _∙_}
 use mathlib.Core.List.{List, [], _∷_, _++_, append-assoc, append-nil}
 use mathlib.Core.Bool.{Bool, true, false, cond}
-use Prim.Native.Nat.{ℕ, zero, suc, _+_, _-_, _<_, _≤_}
+use Prim.Native.Nat.{ℕ, zero, suc, _+_, _<_, _≤_}
 use native.Mathlib.Omega.{arith}
 use borrow.Author.Tests.{eqb-true, eq-eqb, ne-eqb, leb-true, leb-false}
 use lib.Dec.{leb, eqb}
-use lib.ListN.{length, take, drop, length-drop, length-take, drop-of-length-le}
+use lib.ListN.{length, take, drop, length-drop, drop-of-length-le}
 use lib.Seq.{take-add, drop-at, length-take-le}
-use Rattle.dem.specs.Limits.{nameLimit}
 use Rattle.dem.specs.Refusal.{wrongNumber}
 use Rattle.dem.specs.Bytes.{Bytes, Result, found, refused, refusedAt, unless, free, writeString}
 use Rattle.dem.specs.Layout.{Value, number, text, Layout, done, string, parse, print, allows}

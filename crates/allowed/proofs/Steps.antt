@@ -3,18 +3,17 @@
 -- Assumes nothing.
 use mathlib.Core.Path.{_≡_, refl, sym, ap, _∙_}
 use mathlib.Core.List.{List, [], _∷_, _++_}
-use mathlib.Core.Bool.{Bool, true, false, cond, not, _&&_, _||_, and-true, and-false, and-assoc}
-use Prim.Native.Nat.{ℕ, zero, suc, _+_, _*_, _^_, _<_, _≤_}
+use mathlib.Core.Bool.{Bool, true, false, _&&_, _||_, and-true, and-false, and-assoc}
+use Prim.Native.Nat.{ℕ, suc, _+_, _*_, _^_, _<_}
 use native.Mathlib.Omega.{arith}
-use borrow.Author.Tests.{lt-ltb, le-ltb, ltb-true, ltb-false, eqb-true, eqb-false, ne-eqb}
+use borrow.Author.Tests.{lt-ltb, le-ltb, ltb-true, eqb-true, eqb-false, ne-eqb}
 use lib.Dec.{ltb, eqb, lit<}
 use Rattle.dem.specs.Limits.{stringLimit, entityCount}
 use Rattle.dem.specs.Refusal.{Refusal, code, wrongNumber}
 use Rattle.dem.specs.Bytes.{unless, free, bitOf}
-use Rattle.dem.specs.Layout.{Value, number, text, Layout, done, field, split, string, allows, stringBytes}
+use Rattle.dem.specs.Layout.{Value, number, text, Layout, field, split, string, allows, stringBytes}
 use Rattle.dem.specs.Masked.{Slot, Mask, optional, isSent, slotLayout}
 use Rattle.dem.specs.Message.{entityRule}
-use Rattle.dem.proofs.ResultLaws.{clash}
 use Rattle.dem.proofs.LayoutLaws.{Allowed, allows→}
 use Rattle.allowed.specs.Tests.{slotTest}
 

@@ -1,7 +1,7 @@
 -- A string at a place of a text, as a loop tests it: a place outside the text and a string that is too long are refused outright; inside,
 -- what the test says of the whole string it says of what is left of it, and each byte passed leaves one less.
 -- Assumes nothing.
-use mathlib.Core.Path.{_≡_, refl, sym, ap, _∙_}
+use mathlib.Core.Path.{_≡_, refl, ap, _∙_}
 use mathlib.Core.List.{List, [], _∷_}
 use mathlib.Core.Bool.{Bool, true, false, cond, not, _&&_, and-false}
 use Prim.Native.Nat.{ℕ, zero, suc, _+_, _-_, _<_, _≤_}
@@ -63,7 +63,9 @@ module _ (t : List ℕ) (start len : ℕ) where
         ap (λ (k : ℕ). stringBytes k (take (len - n) (drop (start + n) t))) d
         ∙ ap (λ (k : ℕ). stringBytes (suc (stringLimit - (n + 1))) (take k (drop (start + n) t))) e
         ∙ ap (λ (l : List ℕ). stringBytes (suc (stringLimit - (n + 1))) (take (suc (len - (n + 1))) l)) (drop-cons t (start + n) 0 (omega arith))
-        ∙ ap (λ (i : ℕ). not (eqb byte 0) && not (eqb byte 255) && ltb byte 256 && stringBytes (stringLimit - (n + 1)) (take (len - (n + 1)) (drop i t))) a
+        ∙ ap (λ (i : ℕ). not (eqb byte 0) && not (eqb byte 255) && ltb byte 256
+        && stringBytes (stringLimit - (n + 1)) (take (len - (n + 1)) (drop i t)))
+        a
 
     pub left-zero : getD t (start + n) 0 ≡ 0 → left t start len n ≡ false
     unfolding byte

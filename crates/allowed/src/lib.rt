@@ -1,9 +1,7 @@
 // The test behind refusal 13: whether some bytes read to a message as sent, in a scene.
 ghost use mathlib.Core.Path.{_≡_};
 ghost use mathlib.Core.List.{[]};
-ghost use mathlib.Core.Bool.{_&&_};
-ghost use lib.Dec.{ltb};
-ghost use Rattle.dem.specs.Limits.{stringLimit, nameLimit, entityCount};
+ghost use Rattle.dem.specs.Limits.{stringLimit, nameLimit};
 ghost use Rattle.dem.specs.Layout.{allows, stringBytes, done};
 ghost use Rattle.dem.specs.Message.{layout, names};
 ghost use Rattle.strings.specs.Names.{namesIn};

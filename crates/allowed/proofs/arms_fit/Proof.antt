@@ -24,4 +24,10 @@ returns c =
     (sent (a .mask) 14 _ (c .before .has3 .ensures)))
 
 pub arms-fit-spec : {M : Type 1} → statement M
-arms-fit-spec = tie.close (tie.spec has-requires has-requires-2 has-requires-3 returns)
+arms-fit-spec =
+    tie.close
+    (tie.spec
+    has-requires
+    has-requires-2
+    has-requires-3
+    returns)

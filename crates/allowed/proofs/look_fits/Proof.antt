@@ -28,4 +28,11 @@ returns c =
     (sent (a .high) 4 _ (c .before .has4 .ensures)))
 
 pub look-fits-spec : {M : Type 1} → statement M
-look-fits-spec = tie.close (tie.spec has-requires has-requires-2 has-requires-3 has-requires-4 returns)
+look-fits-spec =
+    tie.close
+    (tie.spec
+    has-requires
+    has-requires-2
+    has-requires-3
+    has-requires-4
+    returns)

@@ -33,15 +33,34 @@ has-requires-8 c κs = search needs
 returns : tie.Need-returns
 unfolding motionTest
 returns c =
-    let a = c .before .before .before .before .before .before .before .before .before .before .before .before .before .before .before .before .before .before .before .before .before .before .before .before .args in
-    (both (both (both (both (both (both (both (sent (a .mask) 0 _ (c .before .before .before .before .before .before .before .before .before .before .before .before .before .before .before .before .before .before .before .before .before .before .before .has .ensures))
-    (sent (a .mask) 1 _ (c .before .before .before .before .before .before .before .before .before .before .before .before .before .before .before .before .before .before .before .before .has2 .ensures)))
-    (sent (a .mask) 2 _ (c .before .before .before .before .before .before .before .before .before .before .before .before .before .before .before .before .before .has3 .ensures)))
-    (sent (a .mask) 5 _ (c .before .before .before .before .before .before .before .before .before .before .before .before .before .before .has4 .ensures)))
-    (sent (a .mask) 3 _ (c .before .before .before .before .before .before .before .before .before .before .before .has5 .ensures)))
-    (sent (a .mask) 6 _ (c .before .before .before .before .before .before .before .before .has6 .ensures)))
-    (sent (a .mask) 4 _ (c .before .before .before .before .before .has7 .ensures)))
-    (sent (a .mask) 7 _ (c .before .before .has8 .ensures)))
+    let c8 = c .before .before in
+    let c7 = c8 .before .before .before in
+    let c6 = c7 .before .before .before in
+    let c5 = c6 .before .before .before in
+    let c4 = c5 .before .before .before in
+    let c3 = c4 .before .before .before in
+    let c2 = c3 .before .before .before in
+    let c1 = c2 .before .before .before in
+    let m = c1 .before .args .mask in
+    both (both (both (both (both (both (both (sent m 0 _ (c1 .has .ensures))
+    (sent m 1 _ (c2 .has2 .ensures)))
+    (sent m 2 _ (c3 .has3 .ensures)))
+    (sent m 5 _ (c4 .has4 .ensures)))
+    (sent m 3 _ (c5 .has5 .ensures)))
+    (sent m 6 _ (c6 .has6 .ensures)))
+    (sent m 4 _ (c7 .has7 .ensures)))
+    (sent m 7 _ (c8 .has8 .ensures))
 
 pub motion-fits-spec : {M : Type 1} → statement M
-motion-fits-spec = tie.close (tie.spec has-requires has-requires-2 has-requires-3 has-requires-4 has-requires-5 has-requires-6 has-requires-7 has-requires-8 returns)
+motion-fits-spec =
+    tie.close
+    (tie.spec
+    has-requires
+    has-requires-2
+    has-requires-3
+    has-requires-4
+    has-requires-5
+    has-requires-6
+    has-requires-7
+    has-requires-8
+    returns)

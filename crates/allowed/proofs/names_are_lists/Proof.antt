@@ -2,10 +2,9 @@
 -- exactly if they are found and reach the end.
 -- Assumes nothing.
 use mathlib.Core.Path.{sym}
-use Prim.Native.Nat.{_+_, _≤_}
+use Prim.Native.Nat.{_+_}
 use native.Mathlib.Omega.{arith}
 use borrow.Author.Needs.{needs}
-use lib.ListN.{length}
 use lib.Seq.{length-take-le}
 use Rattle.dem.specs.Limits.{nameLimit}
 use Rattle.dem.proofs.ByteLaws.{bytes-of}

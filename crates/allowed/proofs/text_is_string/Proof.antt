@@ -3,15 +3,15 @@
 -- nothing is left.
 -- Assumes nothing.
 use mathlib.Core.Path.{_≡_, sym, ap, _∙_}
-use mathlib.Core.List.{List}
-use Prim.Native.Nat.{ℕ, _+_, _-_, _<_, _≤_}
+use Prim.Native.Nat.{_+_, _-_, _≤_}
 use native.Mathlib.Omega.{arith}
 use borrow.Author.Tests.{ne-eqb}
 use lib.ListN.{length}
 use Rattle.dem.specs.Limits.{stringLimit}
 use Rattle.dem.specs.Layout.{stringBytes}
 use Rattle.wire.specs.Cursors.{textIn}
-use Rattle.allowed.proofs.StringTests.{placed-inside, placed-outside, string-long, left, left-whole, left-none, left-zero, left-wrong, left-step, textIn-length}
+use Rattle.allowed.proofs.StringTests.{placed-inside, placed-outside, string-long, textIn-length, left, left-whole}
+use Rattle.allowed.proofs.StringTests.{left-none, left-zero, left-wrong, left-step}
 use Rattle.allowed.specs.Placed.{placed}
 use Rattle.allowed.proofs.text_is_string.Statement.{statement}
 use Rattle.allowed.proofs.text_is_string.Tie as tie

@@ -1,6 +1,5 @@
 -- `allowed::time_fits` meets its contract: sign and exponent are one bound.
 -- Assumes nothing.
-use Rattle.allowed.specs.Tests.{timeTest}
 use Rattle.allowed.proofs.Messages.{time-test}
 use Rattle.allowed.proofs.time_fits.Statement.{statement}
 use Rattle.allowed.proofs.time_fits.Tie as tie

@@ -1,7 +1,7 @@
 -- What a layout allows of a message says its kind: an update's number is one of an update's, a temporary entity's type is that of its
 -- shape.
 -- Assumes nothing.
-use mathlib.Core.Path.{_≡_, refl, sym, ap, _∙_, subst, subst₂}
+use mathlib.Core.Path.{_≡_, refl, sym, ap, ap₂, _∙_, subst, subst₂}
 use mathlib.Core.List.{List, [], _∷_, _++_, append-nil}
 use mathlib.Core.Bool.{Bool, true, false, cond, _&&_}
 use Prim.Native.Nat.{ℕ, zero, suc, _+_, _<_}
@@ -22,6 +22,7 @@ use Rattle.dem.proofs.ResultLaws.{clash}
 use Rattle.dem.proofs.LayoutLaws.{Allowed, allows→, and-true}
 use Rattle.dem.proofs.MessageLaws.{kind-update}
 use Rattle.wire.specs.Cursors.{textIn}
+use Rattle.wire.specs.declared.Text.{Text}
 use Rattle.strings.specs.Names.{namesIn}
 use Rattle.message.specs.Values.{valuesBy, long as longValue, vectorValues, temporaryValues, updateValues}
 use Rattle.message.specs.declared.Entity.{Entity}
@@ -33,8 +34,8 @@ use Rattle.message.specs.declared.Message.{Message}
 use Rattle.message.specs.declared.Message.the-variants as M
 use Rattle.pieces.specs.declared.Piece.{Piece}
 use Rattle.pieces.specs.Bytes.{numberPiece, textPiece, vectorPieces, bytesOf}
-use Rattle.pieces.specs.Closed.{Closed}
-use Rattle.pieces.proofs.ListLaws.{lists-print}
+use Rattle.pieces.specs.Texts.{TextsOf}
+use Rattle.pieces.proofs.TextLaws.{lists-print, string-inside, lists-inside}
 
 -- ---- how many values a layout allows
 
@@ -195,8 +196,8 @@ module _ (x : Context) (t : List ℕ) (k : ℕ) where
 -- These pieces are those of a message.
 abbrev pub Written : List Piece → Message → Type 0
 Written ps m =
-    (x : Context) (t : List ℕ) → allows (layout x) (valuesBy (textIn t) m) ≡ true → Closed t m
-    → bytesOf t ps ≡ print (layout x) (valuesBy (textIn t) m)
+    (x : Context) (t : List ℕ) (f : Text → List ℕ) → TextsOf t f → allows (layout x) (valuesBy f m) ≡ true
+    → bytesOf t ps ≡ print (layout x) (valuesBy f m)
 
 -- A message and pieces that are known to be these.
 pub arm : {m n : Message} {ps qs : List Piece} → m ≡ n → ps ≡ qs → Written qs n → Written ps m
@@ -214,8 +215,8 @@ kind-serverinfo : (x : Context) → kindLayout x Kind.serverinfo ≡ row x head 
 unfolding kindLayout
 kind-serverinfo x = refl
 
-abbrev headValues : List ℕ → Serverinfo → List Value → List Value
-headValues t s vs = longValue (s .protocol) ∷ number (s .limit) ∷ number (s .game) ∷ text (textIn t (s .map)) ∷ vs
+abbrev headValues : (Text → List ℕ) → Serverinfo → List Value → List Value
+headValues f s vs = longValue (s .protocol) ∷ number (s .limit) ∷ number (s .game) ∷ text (f (s .map)) ∷ vs
 
 abbrev serverinfoPieces : Serverinfo → List Piece
 serverinfoPieces s =
@@ -223,19 +224,22 @@ serverinfoPieces s =
     ∷ textPiece (s .map) 1 ∷ textPiece (s .names) 0 ∷ []
 
 -- Whatever stands behind its row.
-head-print : (x : Context) (t : List ℕ) (s : Serverinfo) (l : Layout) (vs : List Value) → textIn t (s .names) ≡ print l vs
-    → bytesOf t (serverinfoPieces s) ≡ leWrite 1 Kind.serverinfo ++ print (row x head l) (headValues t s vs)
+head-print : (x : Context) (t : List ℕ) (f : Text → List ℕ) (s : Serverinfo) (l : Layout) (vs : List Value)
+    → textIn t (s .map) ≡ f (s .map) → textIn t (s .names) ≡ print l vs
+    → bytesOf t (serverinfoPieces s) ≡ leWrite 1 Kind.serverinfo ++ print (row x head l) (headValues f s vs)
 unfolding bytesOf print writeString
-head-print x t s l vs e =
-    ap (λ (r : List ℕ). leWrite 1 Kind.serverinfo ++ (leWrite 4 (ofZ w32 (s .protocol)) ++ (leWrite 1 (s .limit) ++ (leWrite 1 (s .game)
-    ++ ((textIn t (s .map) ++ (0 ∷ [])) ++ r)))))
-    (append-nil (textIn t (s .names) ++ []) ∙ append-nil (textIn t (s .names)) ∙ e)
+head-print x t f s l vs d e =
+    ap₂ (λ (q r : List ℕ). leWrite 1 Kind.serverinfo ++ (leWrite 4 (ofZ w32 (s .protocol)) ++ (leWrite 1 (s .limit) ++ (leWrite 1 (s .game)
+    ++ ((q ++ (0 ∷ [])) ++ r)))))
+    d (append-nil (textIn t (s .names) ++ []) ∙ append-nil (textIn t (s .names)) ∙ e)
 
 pub serverinfo-written : (s : Serverinfo) → Written (serverinfoPieces s) (M.Serverinfo s)
 unfolding layout print
-serverinfo-written s x t a h =
-    let vs : List Value = namesIn [] (textIn t (s .names)) in
-    let b : Allowed (row x head lists) (headValues t s vs) =
-    subst (λ (l : Layout). Allowed l (headValues t s vs)) (kind-serverinfo x) (allows→ (layout x) (valuesBy (textIn t) (M.Serverinfo s)) a .2) in
-    head-print x t s lists vs (sym (lists-print nameLimit (textIn t (s .names)) (h s refl) (b .2 .2 .2 .2)))
-    ∙ ap (λ (l : Layout). leWrite 1 Kind.serverinfo ++ print l (headValues t s vs)) (sym (kind-serverinfo x))
+serverinfo-written s x t f i a =
+    let vs : List Value = namesIn [] (f (s .names)) in
+    let b : Allowed (row x head lists) (headValues f s vs) =
+    subst (λ (l : Layout). Allowed l (headValues f s vs)) (kind-serverinfo x) (allows→ (layout x) (valuesBy f (M.Serverinfo s)) a .2) in
+    let d : textIn t (s .map) ≡ f (s .map) = string-inside t f i (s .map) (b .2 .2 .2 .0) in
+    let e : textIn t (s .names) ≡ f (s .names) = lists-inside t f i (s .names) nameLimit (b .2 .2 .2 .2) in
+    head-print x t f s lists vs d (e ∙ sym (lists-print nameLimit (f (s .names)) (b .2 .2 .2 .2)))
+    ∙ ap (λ (l : Layout). leWrite 1 Kind.serverinfo ++ print l (headValues f s vs)) (sym (kind-serverinfo x))

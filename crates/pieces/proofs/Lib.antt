@@ -2,5 +2,5 @@ pub mod UnsignedLaws
 pub mod RoomLaws
 pub mod PrintLaws
 pub mod KindLaws
-pub mod ListLaws
+pub mod TextLaws
 pub mod SizeLaws

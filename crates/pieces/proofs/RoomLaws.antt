@@ -115,9 +115,9 @@ pieces-none t ps i n h =
     rw e
 
 -- From the first on.
-pub pieces-all : (t : List ℕ) (p : Pieces) (n : ℕ) → n ≡ min (p .count) 32 → bytesOf t (run (p .items) 0 (n - 0)) ≡ piecesBytes t p
+pub pieces-all : (t : List ℕ) (p : Pieces) (n : ℕ) → n ≡ min (p .count) 24 → bytesOf t (run (p .items) 0 (n - 0)) ≡ piecesBytes t p
 pieces-all t p n e =
-    let f : n - 0 ≡ min (p .count) 32 = omega arith in
+    let f : n - 0 ≡ min (p .count) 24 = omega arith in
     ap (λ (m : ℕ). bytesOf t (run (p .items) 0 m)) f
 
 -- One piece more, the i-th: its text, then its number.

@@ -47,7 +47,7 @@ run ps i (suc n) = getD ps i (numberPiece 0 0) ∷ run ps (suc i) n
 
 -- As many as are counted.
 abbrev pub listOf : Pieces → List Piece
-listOf p = run (p .items) 0 (min (p .count) 32)
+listOf p = run (p .items) 0 (min (p .count) 24)
 
 -- The bytes of all of them, with the text that they name.
 abbrev pub piecesBytes : List ℕ → Pieces → List ℕ

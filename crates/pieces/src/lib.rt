@@ -12,10 +12,10 @@ ghost use Rattle.dem.specs.Bytes.{leWrite, bit, bitOf};
 ghost use Rattle.dem.specs.Layout.{number, print, allows, tail};
 ghost use Rattle.dem.specs.Scene.{Context};
 ghost use Rattle.dem.specs.Message.{layout, updateLayout};
-ghost use Rattle.wire.specs.Cursors.{textIn};
+ghost use Rattle.wire.specs.declared.Text.{Text};
 ghost use Rattle.message.specs.Values.{valuesBy, particleValues, temporaryValues, soundValues, clientValues, updateValues};
 ghost use Rattle.pieces.specs.Bytes.{numberPiece, textPiece, vectorPieces, lookPieces, posePieces, listOf, piecesBytes};
-ghost use Rattle.pieces.specs.Closed.{Closed};
+ghost use Rattle.pieces.specs.Texts.{TextsOf};
 use message::Clientdata;
 use message::Entity;
 use message::Look;
@@ -38,7 +38,7 @@ pub struct Piece {
 }
 
 pub struct Pieces {
-    pub items: [Piece; 32],
+    pub items: [Piece; 24],
     pub count: usize,
 }
 
@@ -146,7 +146,7 @@ fn numbers(n: u8, w0: usize, v0: u32, w1: usize, v1: u32, w2: usize, v2: u32) ->
     ensures { λ r. ⌜ listOf r ≡ (numberPiece 1 n ∷ numberPiece w0 v0 ∷ numberPiece w1 v1 ∷ numberPiece w2 v2 ∷ []) ⌝ }
 {
     let zero = number(0, 0);
-    let mut items = [zero; 32];
+    let mut items = [zero; 24];
     items[0] = from_u8(n);
     items[1] = number(w0, v0);
     items[2] = number(w1, v1);
@@ -190,7 +190,7 @@ fn with_string(n: u8, w: usize, v: u32, t: Text) -> Pieces
     ensures { λ r. ⌜ listOf r ≡ (numberPiece 1 n ∷ numberPiece w v ∷ textPiece t 1 ∷ []) ⌝ }
 {
     let zero = number(0, 0);
-    let mut items = [zero; 32];
+    let mut items = [zero; 24];
     items[0] = from_u8(n);
     items[1] = number(w, v);
     items[2] = text(t, 1);
@@ -202,7 +202,7 @@ fn before_vector(n: u8, w0: usize, v0: u32, w1: usize, v1: u32, v: Vector) -> Pi
     ensures { λ r. ⌜ listOf r ≡ (numberPiece 1 n ∷ numberPiece w0 v0 ∷ numberPiece w1 v1 ∷ vectorPieces v) ⌝ }
 {
     let zero = number(0, 0);
-    let mut items = [zero; 32];
+    let mut items = [zero; 24];
     items[0] = from_u8(n);
     items[1] = number(w0, v0);
     items[2] = number(w1, v1);
@@ -217,7 +217,7 @@ fn behind_vector(n: u8, v: Vector, a: u8, b: u8, c: u8, w: usize, d: u32, e: u32
     ensures { λ r. ⌜ listOf r ≡ (numberPiece 1 n ∷ (vectorPieces v ++ (numberPiece 1 a ∷ numberPiece 1 b ∷ numberPiece 1 c ∷ numberPiece w d ∷ numberPiece w e ∷ []))) ⌝ }
 {
     let zero = number(0, 0);
-    let mut items = [zero; 32];
+    let mut items = [zero; 24];
     items[0] = from_u8(n);
     items[1] = from_i16(v.x);
     items[2] = from_i16(v.y);
@@ -245,7 +245,7 @@ fn line(k: u8, e: Entity, v: Vector, w: Vector) -> Pieces
     ensures { λ r. ⌜ listOf r ≡ (numberPiece 1 23 ∷ numberPiece 1 k ∷ numberPiece 2 (e .0) ∷ (vectorPieces v ++ vectorPieces w)) ⌝ }
 {
     let zero = number(0, 0);
-    let mut items = [zero; 32];
+    let mut items = [zero; 24];
     items[0] = from_u8(23);
     items[1] = from_u8(k);
     items[2] = number(2, e.0 as u32);
@@ -272,7 +272,7 @@ fn placed(n: u8, w: usize, e: u32, l: Look, p: Pose) -> Pieces
     ensures { λ r. ⌜ listOf r ≡ (numberPiece 1 n ∷ numberPiece w e ∷ (lookPieces l ++ posePieces p)) ⌝ }
 {
     let zero = number(0, 0);
-    let mut items = [zero; 32];
+    let mut items = [zero; 24];
     items[0] = from_u8(n);
     items[1] = number(w, e);
     items[2] = from_u8(l.model);
@@ -294,7 +294,7 @@ fn serverinfo(s: Serverinfo) -> Pieces
     let map = s.map;
     let names = s.names;
     let zero = number(0, 0);
-    let mut items = [zero; 32];
+    let mut items = [zero; 24];
     items[0] = from_u8(11);
     items[1] = from_i32(s.protocol);
     items[2] = from_u8(s.limit);
@@ -311,7 +311,7 @@ fn sound(s: Sound) -> Pieces
     let e = s.entity;
     let v = s.origin;
     let zero = number(0, 0);
-    let mut items = [zero; 32];
+    let mut items = [zero; 24];
     items[0] = from_u8(6);
     items[1] = from_u8(s.mask);
     items[2] = sent_u8(mask, 1, s.volume);
@@ -332,7 +332,7 @@ fn clientdata(c: Clientdata) -> Pieces
     let a = c.arms;
     let s = c.supplies;
     let zero = number(0, 0);
-    let mut items = [zero; 32];
+    let mut items = [zero; 24];
     items[0] = from_u8(15);
     items[1] = number(2, mask as u32);
     items[2] = sent_i8(mask, 1, m.view_height);
@@ -366,7 +366,7 @@ fn update(u: Update) -> Pieces
     let l = u.look;
     let p = u.pose;
     let zero = number(0, 0);
-    let mut items = [zero; 32];
+    let mut items = [zero; 24];
     items[0] = from_u8(u.number);
     items[1] = sent_u8(low, 1, u.high);
     items[2] = number(entity_width(high), e.0 as u32);
@@ -386,7 +386,7 @@ fn update(u: Update) -> Pieces
 
 // A message's pieces: with any text, their bytes are those that the message is written as in any scene that it can be read in.
 pub fn pieces_of(m: Message) -> Pieces
-    ensures { λ r. ⌜ ((x : Context) (t : List ℕ) → allows (layout x) (valuesBy (textIn t) m) ≡ true → Closed t m → piecesBytes t r ≡ print (layout x) (valuesBy (textIn t) m)) ⌝ }
+    ensures { λ r. ⌜ ((x : Context) (t : List ℕ) (f : Text → List ℕ) → TextsOf t f → allows (layout x) (valuesBy f m) ≡ true → piecesBytes t r ≡ print (layout x) (valuesBy f m)) ⌝ }
 {
     match m {
         Message::Nop => numbers(1, 0, 0, 0, 0, 0, 0),
@@ -479,12 +479,11 @@ pub fn put_pieces(room: &mut [u8], text: &[u8], p: Pieces) -> usize
     ensures put { λ r. ⌜ now (room .exit) ≡ piecesBytes (now (text .entry)) p ++ drop (length (piecesBytes (now (text .entry)) p)) (now (room .entry)) ⌝ }
     ensures next { λ r. ⌜ r ≡ length (piecesBytes (now (text .entry)) p) ⌝ }
 {
-    let items = p.items;
-    let n = least(p.count, 32);
+    let n = least(p.count, 24);
     let mut at = 0;
     let mut i = 0;
     while i < n {
-        let q = items[i];
+        let q = p.items[i];
         let behind = put_text(room, at, text, q.start, q.len);
         at = put_number(room, behind, q.width, q.value);
         i += 1;
@@ -497,12 +496,11 @@ pub fn size_of(text: &[u8], p: Pieces) -> usize
     requires { ⌜ length (piecesBytes (now text) p) < 2 ^ 64 ⌝ }
     ensures { λ r. ⌜ r ≡ length (piecesBytes (now (text .entry)) p) ⌝ }
 {
-    let items = p.items;
-    let n = least(p.count, 32);
+    let n = least(p.count, 24);
     let mut size = 0;
     let mut i = 0;
     while i < n {
-        let q = items[i];
+        let q = p.items[i];
         size = size + text_size(text.len(), q.start, q.len) + q.width;
         i += 1;
     }

@@ -11,27 +11,27 @@ use Rattle.pieces.proofs.size_of.Statement.{statement}
 use Rattle.pieces.proofs.size_of.Tie as tie
 
 abbrev Inv-loop : tie.InvT-loop
-Inv-loop text items n size₀ i₀ size i =
-    (n ≤ 32) × (i ≤ n) × (length (bytesOf text (run items 0 (n - 0))) < 2 ^ 64)
-    × (size + length (bytesOf text (run items i (n - i))) ≡ length (bytesOf text (run items 0 (n - 0))))
+Inv-loop text p n size₀ i₀ size i =
+    (n ≤ 24) × (i ≤ n) × (length (bytesOf text (run (p .items) 0 (n - 0))) < 2 ^ 64)
+    × (size + length (bytesOf text (run (p .items) i (n - i))) ≡ length (bytesOf text (run (p .items) 0 (n - 0))))
 
 abbrev μ-loop : tie.MeasureT-loop
-μ-loop text items n size₀ i₀ size i = n - i
+μ-loop text p n size₀ i₀ size i = n - i
 
 least-requires : tie.Need-least-requires Inv-loop μ-loop
 least-requires c κs = search needs
 
 loop-holds : tie.Need-loop-holds Inv-loop μ-loop
 loop-holds c =
-    let a = c .before .before .before .args in
-    let e = pieces-all (a .text .now) (a .p) (c .least .result) (c .least .ensures) in
-    (search needs, search needs, rw e (c .before .before .before .pre), search needs)
+    let a = c .before .before .args in
+    let e = pieces-all (a .text .now) (a .t2) (c .least .result) (c .least .ensures) in
+    (search needs, search needs, rw e (c .before .before .pre), search needs)
 
 mul-q : tie.Need-mul-q Inv-loop μ-loop
 mul-q c = search needs
 
-array-copy-out-q : tie.Need-array-copy-out-q Inv-loop μ-loop
-array-copy-out-q c = search needs
+element-copy-out-q : tie.Need-element-copy-out-q Inv-loop μ-loop
+element-copy-out-q c = search needs
 
 text-size-requires : tie.Need-text-size-requires Inv-loop μ-loop
 text-size-requires c κs = search needs
@@ -39,16 +39,16 @@ text-size-requires c κs = search needs
 add-size : tie.Need-add-size Inv-loop μ-loop
 add-size c =
     let l = c .before .before .before .loop in
-    let b = c .before .before .before .before .before .before .before .args in
+    let b = c .before .before .before .before .before .before .args in
     let n = c .before .before .before .before .least .result in
-    omega (arith, size-more (b .text .now) (b .p .items) (l .i) n (search needs))
+    omega (arith, size-more (b .text .now) (b .t2 .items) (l .i) n (search needs))
 
 add-size-2 : tie.Need-add-size-2 Inv-loop μ-loop
 add-size-2 c =
     let l = c .before .before .before .before .loop in
-    let b = c .before .before .before .before .before .before .before .before .args in
+    let b = c .before .before .before .before .before .before .before .args in
     let n = c .before .before .before .before .before .least .result in
-    omega (arith, size-more (b .text .now) (b .p .items) (l .i) n (search needs))
+    omega (arith, size-more (b .text .now) (b .t2 .items) (l .i) n (search needs))
 
 add-i : tie.Need-add-i Inv-loop μ-loop
 add-i c = search needs
@@ -59,21 +59,21 @@ loop-less c = search needs
 loop-again : tie.Need-loop-again Inv-loop μ-loop
 loop-again c =
     let l = c .before .before .before .before .loop in
-    let b = c .before .before .before .before .before .before .before .before .args in
+    let b = c .before .before .before .before .before .before .before .args in
     let n = c .before .before .before .before .before .least .result in (
       search needs,
       search needs,
       l .inv .2,
-      omega (arith, size-more (b .text .now) (b .p .items) (l .i) n (search needs)),
+      omega (arith, size-more (b .text .now) (b .t2 .items) (l .i) n (search needs)),
     )
 
 returns : tie.Need-returns Inv-loop μ-loop
 returns c =
     let l = c .before .loop in
-    let a = c .before .before .before .before .before .args in
+    let a = c .before .before .before .before .args in
     let n = c .before .before .least .result in
-    let e = pieces-all (a .text .now) (a .p) n (c .before .before .least .ensures) in
-    omega (arith, l .inv .3, ap length e, ap length (pieces-none (a .text .now) (a .p .items) (l .i) n (search needs)))
+    let e = pieces-all (a .text .now) (a .t2) n (c .before .before .least .ensures) in
+    omega (arith, l .inv .3, ap length e, ap length (pieces-none (a .text .now) (a .t2 .items) (l .i) n (search needs)))
 
 pub size-of-spec : {M : Type 1} → statement M
 size-of-spec =
@@ -84,7 +84,7 @@ size-of-spec =
     least-requires
     loop-holds
     mul-q
-    array-copy-out-q
+    element-copy-out-q
     text-size-requires
     add-size
     add-size-2

@@ -29,7 +29,10 @@ use message::Update;
 use message::Vector;
 use wire::Text;
 
-// Some bytes of a text, then a number of `width` bytes, little end first.
+// Pieces that a message has: clientdata has 21.
+const MOST: usize = 24;
+
+// Some bytes of a text, then a number of `width` bytes, little end first. A number of no bytes is not sent.
 pub struct Piece {
     pub start: usize,
     pub len: usize,
@@ -38,9 +41,11 @@ pub struct Piece {
 }
 
 pub struct Pieces {
-    pub items: [Piece; 24],
+    pub items: [Piece; MOST],
     pub count: usize,
 }
+
+// ---- numbers
 
 // A number alone.
 fn number(width: usize, value: u32) -> Piece
@@ -141,12 +146,14 @@ fn sent_i16(mask: u16, weight: u16, z: i16) -> Piece
     sent(mask, weight, 2, unsigned16(z) as u32)
 }
 
+// ---- kinds of messages
+
 // A message's number and at most three numbers more.
 fn numbers(n: u8, w0: usize, v0: u32, w1: usize, v1: u32, w2: usize, v2: u32) -> Pieces
     ensures { λ r. ⌜ listOf r ≡ (numberPiece 1 n ∷ numberPiece w0 v0 ∷ numberPiece w1 v1 ∷ numberPiece w2 v2 ∷ []) ⌝ }
 {
     let zero = number(0, 0);
-    let mut items = [zero; 24];
+    let mut items = [zero; MOST];
     items[0] = from_u8(n);
     items[1] = number(w0, v0);
     items[2] = number(w1, v1);
@@ -163,7 +170,7 @@ fn angles(a: i8, b: i8, c: i8) -> Pieces
     numbers(10, 1, x, 1, y, 1, z)
 }
 
-// A text, then `width` zeros: a string, or serverinfo's lists with their closing empty names.
+// A text and its closing zero, of one byte; serverinfo's lists, which end in zeros of their own, have none.
 fn text(t: Text, width: usize) -> Piece
     ensures { λ r. ⌜ r ≡ textPiece t width ⌝ }
 {
@@ -175,22 +182,12 @@ fn text(t: Text, width: usize) -> Piece
     }
 }
 
-// Two bytes for an entity where bit 14 of an update's mask is set, and else one.
-fn entity_width(high: u16) -> usize
-    ensures { λ r. ⌜ r ≡ suc (bitOf (bit high 6)) ⌝ }
-{
-    if wire::has(high, 64) {
-        return 2;
-    }
-    1
-}
-
 // A message's number, at most one number more, and a string.
 fn with_string(n: u8, w: usize, v: u32, t: Text) -> Pieces
     ensures { λ r. ⌜ listOf r ≡ (numberPiece 1 n ∷ numberPiece w v ∷ textPiece t 1 ∷ []) ⌝ }
 {
     let zero = number(0, 0);
-    let mut items = [zero; 24];
+    let mut items = [zero; MOST];
     items[0] = from_u8(n);
     items[1] = number(w, v);
     items[2] = text(t, 1);
@@ -202,7 +199,7 @@ fn before_vector(n: u8, w0: usize, v0: u32, w1: usize, v1: u32, v: Vector) -> Pi
     ensures { λ r. ⌜ listOf r ≡ (numberPiece 1 n ∷ numberPiece w0 v0 ∷ numberPiece w1 v1 ∷ vectorPieces v) ⌝ }
 {
     let zero = number(0, 0);
-    let mut items = [zero; 24];
+    let mut items = [zero; MOST];
     items[0] = from_u8(n);
     items[1] = number(w0, v0);
     items[2] = number(w1, v1);
@@ -217,7 +214,7 @@ fn behind_vector(n: u8, v: Vector, a: u8, b: u8, c: u8, w: usize, d: u32, e: u32
     ensures { λ r. ⌜ listOf r ≡ (numberPiece 1 n ∷ (vectorPieces v ++ (numberPiece 1 a ∷ numberPiece 1 b ∷ numberPiece 1 c ∷ numberPiece w d ∷ numberPiece w e ∷ []))) ⌝ }
 {
     let zero = number(0, 0);
-    let mut items = [zero; 24];
+    let mut items = [zero; MOST];
     items[0] = from_u8(n);
     items[1] = from_i16(v.x);
     items[2] = from_i16(v.y);
@@ -245,7 +242,7 @@ fn line(k: u8, e: Entity, v: Vector, w: Vector) -> Pieces
     ensures { λ r. ⌜ listOf r ≡ (numberPiece 1 23 ∷ numberPiece 1 k ∷ numberPiece 2 (e .0) ∷ (vectorPieces v ++ vectorPieces w)) ⌝ }
 {
     let zero = number(0, 0);
-    let mut items = [zero; 24];
+    let mut items = [zero; MOST];
     items[0] = from_u8(23);
     items[1] = from_u8(k);
     items[2] = number(2, e.0 as u32);
@@ -272,7 +269,7 @@ fn placed(n: u8, w: usize, e: u32, l: Look, p: Pose) -> Pieces
     ensures { λ r. ⌜ listOf r ≡ (numberPiece 1 n ∷ numberPiece w e ∷ (lookPieces l ++ posePieces p)) ⌝ }
 {
     let zero = number(0, 0);
-    let mut items = [zero; 24];
+    let mut items = [zero; MOST];
     items[0] = from_u8(n);
     items[1] = number(w, e);
     items[2] = from_u8(l.model);
@@ -294,7 +291,7 @@ fn serverinfo(s: Serverinfo) -> Pieces
     let map = s.map;
     let names = s.names;
     let zero = number(0, 0);
-    let mut items = [zero; 24];
+    let mut items = [zero; MOST];
     items[0] = from_u8(11);
     items[1] = from_i32(s.protocol);
     items[2] = from_u8(s.limit);
@@ -311,7 +308,7 @@ fn sound(s: Sound) -> Pieces
     let e = s.entity;
     let v = s.origin;
     let zero = number(0, 0);
-    let mut items = [zero; 24];
+    let mut items = [zero; MOST];
     items[0] = from_u8(6);
     items[1] = from_u8(s.mask);
     items[2] = sent_u8(mask, 1, s.volume);
@@ -332,7 +329,7 @@ fn clientdata(c: Clientdata) -> Pieces
     let a = c.arms;
     let s = c.supplies;
     let zero = number(0, 0);
-    let mut items = [zero; 24];
+    let mut items = [zero; MOST];
     items[0] = from_u8(15);
     items[1] = number(2, mask as u32);
     items[2] = sent_i8(mask, 1, m.view_height);
@@ -357,6 +354,16 @@ fn clientdata(c: Clientdata) -> Pieces
     Pieces { items, count: 21 }
 }
 
+// Two bytes for an entity where bit 14 of an update's mask is set, and else one.
+fn entity_width(high: u16) -> usize
+    ensures { λ r. ⌜ r ≡ suc (bitOf (bit high 6)) ⌝ }
+{
+    if wire::has(high, 64) {
+        return 2;
+    }
+    1
+}
+
 fn update(u: Update) -> Pieces
     ensures { λ r. ⌜ ((t : List ℕ) → piecesBytes t r ≡ leWrite 1 (u .number) ++ print (updateLayout (u .number)) (tail (updateValues u))) ⌝ }
 {
@@ -366,7 +373,7 @@ fn update(u: Update) -> Pieces
     let l = u.look;
     let p = u.pose;
     let zero = number(0, 0);
-    let mut items = [zero; 24];
+    let mut items = [zero; MOST];
     items[0] = from_u8(u.number);
     items[1] = sent_u8(low, 1, u.high);
     items[2] = number(entity_width(high), e.0 as u32);
@@ -384,7 +391,8 @@ fn update(u: Update) -> Pieces
     Pieces { items, count: 14 }
 }
 
-// A message's pieces: with any text, their bytes are those that the message is written as in any scene that it can be read in.
+// A message's pieces: their bytes are those that the message is written as, in any scene in which some bytes read to it, and whichever
+// text its strings are places of.
 pub fn pieces_of(m: Message) -> Pieces
     ensures { λ r. ⌜ ((x : Context) (t : List ℕ) (f : Text → List ℕ) → TextsOf t f → allows (layout x) (valuesBy f m) ≡ true → piecesBytes t r ≡ print (layout x) (valuesBy f m)) ⌝ }
 {
@@ -425,6 +433,8 @@ pub fn pieces_of(m: Message) -> Pieces
         Message::Update(u) => update(u),
     }
 }
+
+// ---- into room
 
 fn least(a: usize, b: usize) -> usize
     ensures { λ r. ⌜ r ≡ min a b ⌝ }
@@ -479,7 +489,7 @@ pub fn put_pieces(room: &mut [u8], text: &[u8], p: Pieces) -> usize
     ensures put { λ r. ⌜ now (room .exit) ≡ piecesBytes (now (text .entry)) p ++ drop (length (piecesBytes (now (text .entry)) p)) (now (room .entry)) ⌝ }
     ensures next { λ r. ⌜ r ≡ length (piecesBytes (now (text .entry)) p) ⌝ }
 {
-    let n = least(p.count, 24);
+    let n = least(p.count, MOST);
     let mut at = 0;
     let mut i = 0;
     while i < n {
@@ -496,7 +506,7 @@ pub fn size_of(text: &[u8], p: Pieces) -> usize
     requires { ⌜ length (piecesBytes (now text) p) < 2 ^ 64 ⌝ }
     ensures { λ r. ⌜ r ≡ length (piecesBytes (now (text .entry)) p) ⌝ }
 {
-    let n = least(p.count, 24);
+    let n = least(p.count, MOST);
     let mut size = 0;
     let mut i = 0;
     while i < n {

@@ -4,10 +4,12 @@ ghost use mathlib.Core.List.{List};
 ghost use mathlib.Core.Bool.{Bool};
 ghost use Prim.Native.Nat.{ℕ, _-_};
 ghost use Rattle.dem.specs.Scene.{fresh, contextOf};
-ghost use Rattle.dem.specs.Answer.{messageAt};
+ghost use Rattle.dem.specs.Answer.{messageAt, writeSent};
 ghost use Rattle.parts.specs.Kinds.{contextOf as numbersOf};
 ghost use Rattle.scene.specs.Views.{sceneWith, sceneOf};
-ghost use Rattle.cobbrundle.specs.Replies.{replyOf};
+ghost use Rattle.message.specs.Values.{valuesBy};
+ghost use Rattle.allowed.specs.Placed.{placed};
+ghost use Rattle.cobbrundle.specs.Replies.{replyOf, writtenOf};
 use message::Message;
 use parts::Context;
 use scene::Filled;
@@ -24,6 +26,18 @@ pub enum MessageAnswer {
 // With a refusal and at the end, the scene given.
 pub struct MessageReply {
     pub answer: MessageAnswer,
+    pub scene: Scene,
+}
+
+// The number of bytes written; or a refusal's number and place.
+pub enum WriteAnswer {
+    Written(usize),
+    Refused(u8, usize),
+}
+
+// With a refusal, the scene given.
+pub struct WriteReply {
+    pub answer: WriteAnswer,
     pub scene: Scene,
 }
 
@@ -99,6 +113,46 @@ pub fn read_message_at(scene: Scene, bytes: &[u8], at: usize) -> MessageReply
     let next = place(bytes.len(), c.at);
     MessageReply {
         answer: MessageAnswer::Found(message, filled, next),
+        scene: after,
+    }
+}
+
+// A message as sent into lent room, its strings being places in a lent text. With a refusal nothing is written; what is behind the
+// message stays.
+pub fn write_message(scene: Scene, message: Message, text: &[u8], room: &mut [u8]) -> WriteReply
+    ensures { λ r. ⌜ writtenOf r (now (room .exit)) ≡ writeSent (sceneOf scene) (valuesBy (placed (now (text .entry))) message) (now (room .entry)) ⌝ }
+{
+    let rest = scene.rest;
+    if !scene::in_range(rest) {
+        return WriteReply {
+            answer: WriteAnswer::Refused(14, 0),
+            scene,
+        };
+    }
+    if rest.ended {
+        return WriteReply {
+            answer: WriteAnswer::Refused(11, 0),
+            scene,
+        };
+    }
+    if !allowed::is_allowed(message, text, context(rest)) {
+        return WriteReply {
+            answer: WriteAnswer::Refused(13, 0),
+            scene,
+        };
+    }
+    let pieces = pieces::pieces_of(message);
+    let size = pieces::size_of(text, pieces);
+    if room.len() < size {
+        return WriteReply {
+            answer: WriteAnswer::Refused(12, size),
+            scene,
+        };
+    }
+    let written = pieces::put_pieces(room, text, pieces);
+    let after = effects::scene_after(scene, message);
+    WriteReply {
+        answer: WriteAnswer::Written(written),
         scene: after,
     }
 }

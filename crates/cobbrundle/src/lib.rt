@@ -150,9 +150,8 @@ pub fn write_message(scene: Scene, message: Message, text: &[u8], room: &mut [u8
         };
     }
     let written = pieces::put_pieces(room, text, pieces);
-    let after = effects::scene_after(scene, message);
     WriteReply {
         answer: WriteAnswer::Written(written),
-        scene: after,
+        scene: effects::scene_after(scene, message),
     }
 }

@@ -42,7 +42,7 @@ allowed-numbered x f m a u e =
 
 -- ---- the answer
 
-abbrev done : Scene → ℕ → List ℕ → Written Scene ℕ
+abbrev pub done : Scene → ℕ → List ℕ → Written Scene ℕ
 done s n room = written (reply s (result n)) room
 
 answered : {s t : Scene} {m n : ℕ} {a b : List ℕ} → s ≡ t → m ≡ n → a ≡ b → done s m a ≡ done t n b

@@ -3,17 +3,19 @@
 -- Assumes nothing.
 use mathlib.Core.Path.{_≡_, refl, sym, ap, _∙_, subst}
 use mathlib.Core.List.{List, [], _∷_, _++_}
+use mathlib.Core.Logic.{_≢_}
 use mathlib.Core.Bool.{Bool, true, false}
 use Prim.Native.Nat.{ℕ, _+_, _-_, _<_, _≤_}
 use native.Mathlib.Omega.{arith}
 use borrow.Author.Tests.{eqb-true, eqb-false, ltb-true, ltb-false}
 use lib.Dec.{eqb, ltb}
 use lib.ListN.{length, take, drop, getD}
-use lib.Seq.{take-append-seam}
+use lib.Seq.{take-append-seam, getD-set-other}
 use Rattle.dem.specs.Bytes.{Bytes, Result, found, refused}
-use Rattle.dem.specs.Layout.{Value, number}
-use Rattle.dem.specs.Scene.{Scene as Described, inRange, zeroRecord}
-use Rattle.dem.specs.Message.{Message as Values, fill, apply}
+use Rattle.dem.specs.Kind
+use Rattle.dem.specs.Layout.{Value, number, numbers, tail}
+use Rattle.dem.specs.Scene.{Scene as Described, inRange, contextOf, baselineAt, zeroRecord}
+use Rattle.dem.specs.Message.{Message as Values, isUpdate, fillUpdate, fill, apply}
 use Rattle.dem.specs.WellFormed.{GoodMessage}
 use Rattle.dem.specs.Codec.{Codec}
 use Rattle.dem.specs.Recording.{readMessage, writeMessage, messages, placeIn}
@@ -21,11 +23,14 @@ use Rattle.dem.specs.Answer.{Answer, result, atEnd, refusal, Reply, reply, Item
 use Rattle.dem.proofs.ResultLaws.{clash}
 use Rattle.dem.proofs.ByteLaws.{drop-bytes}
 use Rattle.dem.proofs.CodecLaws.{Taken}
+use Rattle.dem.proofs.MessageLaws.{fill-update}
 use Rattle.dem.proofs.BlockLaws.{message-lawful}
 use Rattle.dem.proofs.AnswerLaws.{item-wrong, item-end, item-past, item-at, item-next}
 use Rattle.wire.specs.Cursors.{textIn}
 use Rattle.message.specs.declared.Message.{Message}
-use Rattle.message.specs.Values.{valuesBy, valuesOf}
+use Rattle.message.specs.declared.Message.the-variants as M
+use Rattle.message.specs.declared.Update.{Update}
+use Rattle.message.specs.Values.{valuesBy, valuesOf, updateValues}
 use Rattle.scene.specs.declared.Scene.{Scene}
 use Rattle.scene.specs.declared.Filled.{Filled}
 use Rattle.scene.specs.Views.{sceneOf, filledValues}
@@ -35,7 +40,7 @@ use Rattle.cobbrundle.specs.declared.MessageAnswer.{MessageAnswer}
 use Rattle.cobbrundle.specs.declared.MessageAnswer.the-variants.{Found}
 use Rattle.cobbrundle.specs.declared.MessageReply.{MessageReply}
 use Rattle.cobbrundle.specs.declared.WriteReply.{WriteReply}
-use Rattle.cobbrundle.proofs.Writing.{done, done-reply}
+use Rattle.cobbrundle.proofs.Writing.{done, done-reply, allowed-numbered}
 
 -- ---- a message that was found
 
@@ -140,3 +145,28 @@ module _ (scene : Scene) (s : List ℕ) (at : ℕ) (bytes : Bytes s) (r : Messag
       ∙ sym (done-reply t (valuesOf s m) room (it .range) (k .good .going) (k .good .allowed) refl front size
       (ap (λ (j : ℕ). take (next - at) (drop at s) ++ drop j room) size) (omega (arith, long))) in
       (ap count-of x, ap room-of x, ap written-scene x ∙ sym (it .after))
+
+  -- An update changes the record and the mark of its entity, and of no other.
+  module _ (u : Update) (is : m ≡ M.Update u) where
+    abbrev fields : List Value
+    fields = tail (tail (fillUpdate (baselineAt t (u .entity .0)) (u .number) (tail (updateValues u))))
+
+    after-update : sceneOf (r .scene) ≡ apply t (number Kind.update ∷ number (u .entity .0) ∷ fields)
+    after-update =
+        let k : Taken messages GoodMessage t (drop at s) (valuesOf s m) (it .rest) =
+        message-lawful .sound t (drop at s) (valuesOf s m) (it .rest) (drop-bytes at s bytes) (it .read) in
+        let n : isUpdate (u .number) ≡ true = allowed-numbered (contextOf t) (textIn s) m (k .good .allowed) u is in
+        it .after ∙ ap (λ (x : Message). apply t (fill t (valuesOf s x))) is
+        ∙ ap (apply t) (fill-update t (u .number) (tail (updateValues u)) n)
+
+    pub others-stay : (j : ℕ) → j ≢ u .entity .0
+        → (getD (sceneOf (r .scene) .records) j zeroRecord ≡ getD (t .records) j zeroRecord)
+        × (getD (sceneOf (r .scene) .present) j false ≡ getD (t .present) j false)
+        × (sceneOf (r .scene) .baselines ≡ t .baselines)
+    unfolding apply
+    others-stay j q =
+        let e = after-update in (
+          ap (λ (x : Described). getD (x .records) j zeroRecord) e ∙ getD-set-other (t .records) (u .entity .0) j (numbers fields) zeroRecord q,
+          ap (λ (x : Described). getD (x .present) j false) e ∙ getD-set-other (t .present) (u .entity .0) j true false q,
+          ap (λ (x : Described). x .baselines) e,
+        )

@@ -1,9 +1,13 @@
-// The marked cases of document 01, and every refusal that a message can meet, through the public entries: what each answers, what was
-// written back into room that held EE, and what the scene then holds of entity 5, stat 14 and player 0. Numbers of more
-// than one byte are shown by their bits.
+// The marked cases of document 01, every refusal that a message can meet, and every bit of the masks, through the public entries: what
+// each answers, what is written back into room that held EE, and what the scene then holds. Numbers are shown by their bits.
 use cobbrundle::MessageAnswer;
 use cobbrundle::WriteAnswer;
+use message::Look;
 use message::Message;
+use message::Motion;
+use message::Pose;
+use message::Supplies;
+use scene::Client;
 use scene::Record;
 use scene::Rest;
 use scene::Scene;
@@ -32,11 +36,14 @@ fn four(a: u8, b: u8, c: u8, d: u8) {
     byte(d);
 }
 
-fn sixteen(b: [u8; 16]) {
+fn room_bytes(b: [u8; 28]) {
     four(b[0], b[1], b[2], b[3]);
     four(b[4], b[5], b[6], b[7]);
     four(b[8], b[9], b[10], b[11]);
     four(b[12], b[13], b[14], b[15]);
+    four(b[16], b[17], b[18], b[19]);
+    four(b[20], b[21], b[22], b[23]);
+    four(b[24], b[25], b[26], b[27]);
 }
 
 fn word(name: &[u8], v: i16) {
@@ -53,7 +60,7 @@ fn refused(n: u8, at: usize) {
 }
 
 fn write_back(s: Scene, m: Message, text: &[u8]) {
-    let mut room = [238u8; 16];
+    let mut room = [238u8; 28];
     let w = cobbrundle::write_message(s, m, text, &mut room);
     let answer = w.answer;
     match answer {
@@ -61,7 +68,7 @@ fn write_back(s: Scene, m: Message, text: &[u8]) {
             say(b"  written ");
             number(n as u64);
             say(b": ");
-            sixteen(room);
+            room_bytes(room);
             say(b"\n");
         }
         WriteAnswer::Refused(n, at) => refused(n, at),
@@ -94,16 +101,72 @@ fn flag(name: &[u8], set: bool) {
     }
 }
 
+fn char(name: &[u8], v: i8) {
+    say(name);
+    byte(pieces::unsigned8(v));
+}
+
+fn show_look(look: Look, effects: u8) {
+    say(b" look ");
+    four(look.model, look.frame, look.colormap, look.skin);
+    say(b" effects ");
+    byte(effects);
+}
+
+fn show_pose(pose: Pose) {
+    word(b" x=", pose.x);
+    char(b"/", pose.angle0);
+    word(b" y=", pose.y);
+    char(b"/", pose.angle1);
+    word(b" z=", pose.z);
+    char(b"/", pose.angle2);
+}
+
 fn show_record(record: Record, present: bool) {
     let look = record.look;
     let pose = record.pose;
     flag(b"  record 5 present=", present);
-    say(b" model=");
-    byte(look.model);
-    word(b" x=", pose.x);
-    word(b" y=", pose.y);
-    word(b" z=", pose.z);
+    show_look(look, record.effects);
+    show_pose(pose);
     flag(b" bit5=", record.bit5);
+    say(b"\n");
+}
+
+fn show_motion(m: Motion) {
+    char(b" view height ", m.view_height);
+    char(b" pitch ", m.pitch);
+    char(b" punch ", m.punch0);
+    char(b" ", m.punch1);
+    char(b" ", m.punch2);
+    char(b" velocity ", m.velocity0);
+    char(b" ", m.velocity1);
+    char(b" ", m.velocity2);
+}
+
+fn show_supplies(s: Supplies) {
+    word(b" health ", s.health);
+    say(b" ammo ");
+    byte(s.ammo);
+    say(b" counts ");
+    four(s.count0, s.count1, s.count2, s.count3);
+    say(b" weapon ");
+    byte(s.weapon);
+}
+
+fn show_client(c: Client) {
+    let motion = c.motion;
+    let arms = c.arms;
+    let supplies = c.supplies;
+    flag(b"  client ground=", c.ground);
+    flag(b" water=", c.water);
+    show_motion(motion);
+    say(b" items ");
+    hex(pieces::unsigned32(c.items) as u64, 8);
+    say(b" frame, armour, model ");
+    byte(arms.weapon_frame);
+    byte(arms.armour);
+    byte(arms.weapon_model);
+    show_supplies(supplies);
     say(b"\n");
 }
 
@@ -181,19 +244,176 @@ fn places(start: Scene) {
     write_back(start, Message::Stat(31, -2), &[]);
     write_back(
         start,
-        Message::Print(Text { start: 1, len: 15 }),
-        b"-fifteen bytes ..",
+        Message::Print(Text { start: 1, len: 27 }),
+        b"-abcdefghijklmnopqrstuvwxyz..",
     );
     write_back(
         start,
-        Message::Print(Text { start: 1, len: 14 }),
-        b"-fifteen bytes ..",
+        Message::Print(Text { start: 1, len: 26 }),
+        b"-abcdefghijklmnopqrstuvwxyz..",
     );
     write_back(
         start,
-        Message::Print(Text { start: 9, len: 9 }),
-        b"-fifteen bytes ..",
+        Message::Print(Text { start: 2, len: 28 }),
+        b"-abcdefghijklmnopqrstuvwxyz..",
     );
+}
+
+// An update whose fields differ from a baseline whose fields all differ.
+fn update(base: Scene, bytes: &[u8]) {
+    let after = step(base, bytes, 0);
+    show_record(after.records[5], after.present[5]);
+}
+
+fn low_bits(base: Scene) {
+    say(b"an update's mask, each bit alone\n");
+    update(base, &[129, 0, 5]);
+    update(base, &[130, 5, 17, 18]);
+    update(base, &[132, 5, 17, 18]);
+    update(base, &[136, 5, 17, 18]);
+    update(base, &[144, 5, 17]);
+    update(base, &[160, 5]);
+    update(base, &[192, 5, 17]);
+}
+
+fn high_bits(base: Scene) {
+    update(base, &[129, 1, 5, 17]);
+    update(base, &[129, 2, 5, 17]);
+    update(base, &[129, 4, 5, 17]);
+    update(base, &[129, 8, 5, 17]);
+    update(base, &[129, 16, 5, 17]);
+    update(base, &[129, 32, 5, 17]);
+    update(base, &[129, 64, 5, 0]);
+    say(b"all together, and bit 15\n");
+    update(
+        base,
+        &[
+            255,
+            127,
+            5,
+            0,
+            17,
+            18,
+            19,
+            20,
+            21,
+            22,
+            23,
+            24,
+            25,
+            26,
+            27,
+            28,
+            29,
+            30,
+        ],
+    );
+    update(base, &[129, 128, 5]);
+}
+
+fn client(start: Scene, bytes: &[u8]) {
+    let after = step(start, bytes, 0);
+    let rest = after.rest;
+    let client = rest.client;
+    show_client(client);
+}
+
+fn client_low(start: Scene) {
+    say(b"clientdata's mask, each bit alone\n");
+    client(start, &[15, 0, 0, 1, 2, 3, 4, 5, 6, 7, 8, 9, 10, 11, 12]);
+    client(
+        start,
+        &[15, 1, 0, 99, 1, 2, 3, 4, 5, 6, 7, 8, 9, 10, 11, 12],
+    );
+    client(
+        start,
+        &[15, 2, 0, 99, 1, 2, 3, 4, 5, 6, 7, 8, 9, 10, 11, 12],
+    );
+    client(
+        start,
+        &[15, 4, 0, 99, 1, 2, 3, 4, 5, 6, 7, 8, 9, 10, 11, 12],
+    );
+    client(
+        start,
+        &[15, 8, 0, 99, 1, 2, 3, 4, 5, 6, 7, 8, 9, 10, 11, 12],
+    );
+    client(
+        start,
+        &[15, 16, 0, 99, 1, 2, 3, 4, 5, 6, 7, 8, 9, 10, 11, 12],
+    );
+    client(
+        start,
+        &[15, 32, 0, 99, 1, 2, 3, 4, 5, 6, 7, 8, 9, 10, 11, 12],
+    );
+    client(
+        start,
+        &[15, 64, 0, 99, 1, 2, 3, 4, 5, 6, 7, 8, 9, 10, 11, 12],
+    );
+    client(
+        start,
+        &[15, 128, 0, 99, 1, 2, 3, 4, 5, 6, 7, 8, 9, 10, 11, 12],
+    );
+}
+
+fn client_high(start: Scene) {
+    client(start, &[15, 0, 2, 1, 2, 3, 4, 5, 6, 7, 8, 9, 10, 11, 12]);
+    client(start, &[15, 0, 4, 1, 2, 3, 4, 5, 6, 7, 8, 9, 10, 11, 12]);
+    client(start, &[15, 0, 8, 1, 2, 3, 4, 5, 6, 7, 8, 9, 10, 11, 12]);
+    client(
+        start,
+        &[15, 0, 16, 1, 2, 3, 4, 99, 5, 6, 7, 8, 9, 10, 11, 12],
+    );
+    client(
+        start,
+        &[15, 0, 32, 1, 2, 3, 4, 99, 5, 6, 7, 8, 9, 10, 11, 12],
+    );
+    client(
+        start,
+        &[15, 0, 64, 1, 2, 3, 4, 99, 5, 6, 7, 8, 9, 10, 11, 12],
+    );
+    say(b"all together, and bits 8 and 15\n");
+    client(
+        start,
+        &[
+            15,
+            255,
+            126,
+            1,
+            2,
+            3,
+            4,
+            5,
+            6,
+            7,
+            8,
+            9,
+            10,
+            11,
+            12,
+            13,
+            14,
+            15,
+            16,
+            17,
+            18,
+            19,
+            20,
+            21,
+            22,
+            23,
+        ],
+    );
+    client(start, &[15, 0, 1, 1, 2, 3, 4, 5, 6, 7, 8, 9, 10, 11, 12]);
+    client(start, &[15, 0, 128, 1, 2, 3, 4, 5, 6, 7, 8, 9, 10, 11, 12]);
+}
+
+fn sounds(start: Scene) {
+    say(b"sound's mask, each bit alone, together, and bit 2\n");
+    step(start, &[6, 0, 41, 0, 7, 1, 2, 3, 4, 5, 6], 0);
+    step(start, &[6, 1, 99, 41, 0, 7, 1, 2, 3, 4, 5, 6], 0);
+    step(start, &[6, 2, 99, 41, 0, 7, 1, 2, 3, 4, 5, 6], 0);
+    step(start, &[6, 3, 98, 99, 41, 0, 7, 1, 2, 3, 4, 5, 6], 0);
+    step(start, &[6, 4, 41, 0, 7, 1, 2, 3, 4, 5, 6], 0);
 }
 
 fn main() {
@@ -207,4 +427,15 @@ fn main() {
     updates(base);
     others(start, base);
     places(start);
+    say(b"a baseline with a value in each field\n");
+    let full = step(
+        start,
+        &[22, 5, 0, 1, 2, 3, 4, 5, 6, 7, 8, 9, 10, 11, 12, 13],
+        0,
+    );
+    low_bits(full);
+    high_bits(full);
+    client_low(start);
+    client_high(start);
+    sounds(start);
 }

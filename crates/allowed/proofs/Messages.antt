@@ -54,7 +54,7 @@ use Rattle.parts.specs.Kinds.{contextOf}
 use Rattle.parts.specs.declared.Context.{Context}
 use Rattle.plain.proofs.Rules.{not-below}
 use Rattle.plain.proofs.Types.{in-run, none-is-point}
-use Rattle.allowed.specs.Placed.{placed}
+use Rattle.wire.specs.Cursors.{placed}
 use Rattle.allowed.specs.Tests.{slotTest, motionTest, armsTest, lookTest, poseTest, listsTest, sourceTest, soundTest, timeTest}
 use Rattle.allowed.specs.Tests.{serverinfoTest, clientTest, temporaryTest, sentTest, updateTest, messageTest}
 use Rattle.allowed.proofs.Steps.{met, field-step, ruled-step, sent-step, entity-step, split-step, string-step, Wide}

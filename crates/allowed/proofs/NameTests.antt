@@ -18,13 +18,13 @@ use Rattle.dem.specs.Message.{isEmpty, names}
 use Rattle.dem.proofs.ResultLaws.{clash}
 use Rattle.dem.proofs.ByteLaws.{take-bytes, drop-bytes}
 use Rattle.dem.proofs.LayoutLaws.{Allowed, parse-sound, parse-complete, allows→, allows←}
-use Rattle.wire.specs.Cursors.{gotten, parseAt, textIn}
+use Rattle.wire.specs.Cursors.{gotten, parseAt, textIn, placed}
 use Rattle.wire.specs.declared.Cursor.{Cursor}
 use Rattle.wire.specs.declared.Text.{Text}
 use Rattle.strings.specs.Names.{nameStep, namesIn}
+use Rattle.strings.proofs.Places.{placed-inside}
 use Rattle.strings.proofs.NameLaws.{lists-strings}
-use Rattle.allowed.specs.Placed.{placed}
-use Rattle.allowed.proofs.StringTests.{placed-inside, placed-outside}
+use Rattle.allowed.proofs.StringTests.{placed-outside}
 
 -- ---- values that are strings, and the bytes that they print to
 

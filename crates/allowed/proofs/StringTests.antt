@@ -12,18 +12,12 @@ use lib.ListN.{length, getD, take, drop, length-take, length-drop}
 use lib.Seq.{drop-cons}
 use Rattle.dem.specs.Limits.{stringLimit}
 use Rattle.dem.specs.Layout.{stringBytes}
-use Rattle.wire.specs.Cursors.{textIn}
+use Rattle.wire.specs.Cursors.{textIn, placed}
 use Rattle.wire.specs.declared.Text.{Text}
-use Rattle.allowed.specs.Placed.{placed}
 
-module _ (t : List ℕ) (p : Text) where
-  pub placed-inside : p .start + p .len ≤ length t → placed t p ≡ textIn t p
-  unfolding placed
-  placed-inside h = ap (λ (b : Bool). cond b (textIn t p) (0 ∷ [])) (le-leb (p .start + p .len) (length t) h)
-
-  pub placed-outside : length t < p .start + p .len → placed t p ≡ 0 ∷ []
-  unfolding placed
-  placed-outside h = ap (λ (b : Bool). cond b (textIn t p) (0 ∷ [])) (lt-leb (p .start + p .len) (length t) h)
+pub placed-outside : (t : List ℕ) (p : Text) → length t < p .start + p .len → placed t p ≡ 0 ∷ []
+unfolding placed
+placed-outside t p h = ap (λ (b : Bool). cond b (textIn t p) (0 ∷ [])) (lt-leb (p .start + p .len) (length t) h)
 
 pub string-long : (n : ℕ) (t : List ℕ) → n ≤ length t → stringBytes n t ≡ false
 string-long zero t h = refl

@@ -31,7 +31,7 @@ use Rattle.message.specs.declared.Message.{Message}
 use Rattle.message.specs.declared.Message.the-variants as M
 use Rattle.parts.specs.Kinds.{contextOf}
 use Rattle.parts.specs.declared.Context.{Context}
-use Rattle.allowed.specs.Placed.{placed}
+use Rattle.wire.specs.Cursors.{placed}
 
 -- ---- fields behind a mask: each that it does not bring is 0
 

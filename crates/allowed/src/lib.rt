@@ -7,7 +7,7 @@ ghost use Rattle.dem.specs.Message.{layout, names};
 ghost use Rattle.strings.specs.Names.{namesIn};
 ghost use Rattle.message.specs.Values.{valuesBy};
 ghost use Rattle.parts.specs.Kinds.{contextOf};
-ghost use Rattle.allowed.specs.Placed.{placed};
+ghost use Rattle.wire.specs.Cursors.{placed};
 ghost use Rattle.allowed.specs.Tests.{motionTest, armsTest, lookTest, poseTest, sourceTest, soundTest, timeTest, serverinfoTest};
 ghost use Rattle.allowed.specs.Tests.{clientTest, temporaryTest, updateTest};
 use message::Arms;

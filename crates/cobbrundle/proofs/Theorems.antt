@@ -26,7 +26,6 @@ use Rattle.dem.proofs.CodecLaws.{Taken}
 use Rattle.dem.proofs.MessageLaws.{fill-update}
 use Rattle.dem.proofs.BlockLaws.{message-lawful}
 use Rattle.dem.proofs.AnswerLaws.{item-wrong, item-end, item-past, item-at, item-next}
-use Rattle.wire.specs.Cursors.{textIn}
 use Rattle.message.specs.declared.Message.{Message}
 use Rattle.message.specs.declared.Message.the-variants as M
 use Rattle.message.specs.declared.Update.{Update}
@@ -34,7 +33,7 @@ use Rattle.message.specs.Values.{valuesBy, valuesOf, updateValues}
 use Rattle.scene.specs.declared.Scene.{Scene}
 use Rattle.scene.specs.declared.Filled.{Filled}
 use Rattle.scene.specs.Views.{sceneOf, filledValues}
-use Rattle.allowed.specs.Placed.{placed}
+use Rattle.wire.specs.Cursors.{placed}
 use Rattle.cobbrundle.specs.Replies.{answerOf, replyOf, countOf, writtenOf}
 use Rattle.cobbrundle.specs.declared.MessageAnswer.{MessageAnswer}
 use Rattle.cobbrundle.specs.declared.MessageAnswer.the-variants.{Found}
@@ -119,19 +118,19 @@ module _ (scene : Scene) (s : List ℕ) (at : ℕ) (bytes : Bytes s) (r : Messag
   t = sceneOf scene
 
   abbrev item : Item Values Values
-  item = record { sent = valuesOf s m; filled = filledValues (textIn s) f; next = next }
+  item = record { sent = valuesOf s m; filled = filledValues (placed s) f; next = next }
 
   -- The reader found it.
   it : FoundAt t s at (sceneOf (r .scene)) item
   it = found-at t s at (sceneOf (r .scene)) item (ap (λ (a : MessageAnswer). reply (sceneOf (r .scene)) (answerOf s a)) (sym was) ∙ read)
 
-  -- Where its strings lie inside the bytes that they were read from, the same bytes are written, and the scene after it is the same.
-  pub written-back : valuesBy (placed s) m ≡ valuesOf s m → (w : WriteReply) (room room′ : List ℕ)
-      → writtenOf w room′ ≡ writeSent t (valuesBy (placed s) m) room → next - at ≤ length room
+  -- The same bytes are written, what is behind them in the room stays, and the scene after it is the same.
+  pub written-back : (w : WriteReply) (room room′ : List ℕ)
+      → writtenOf w room′ ≡ writeSent t (valuesOf s m) room → next - at ≤ length room
       → (countOf (w .answer) ≡ result (next - at)) × (room′ ≡ take (next - at) (drop at s) ++ drop (next - at) room)
       × (sceneOf (w .scene) ≡ sceneOf (r .scene))
   unfolding writeMessage
-  written-back inside w room room′ wrote h =
+  written-back w room room′ wrote h =
       let b = writeMessage t (valuesOf s m) in
       let k : Taken messages GoodMessage t (drop at s) (valuesOf s m) (it .rest) =
       message-lawful .sound t (drop at s) (valuesOf s m) (it .rest) (drop-bytes at s bytes) (it .read) in
@@ -141,7 +140,7 @@ module _ (scene : Scene) (s : List ℕ) (at : ℕ) (bytes : Bytes s) (r : Messag
       ap (λ (j : ℕ). take j (drop at s)) long ∙ ap (take (length b)) (sym (k .tiles)) ∙ take-append-seam b (it .rest) in
       let size : next - at ≡ length (take (next - at) (drop at s)) = long ∙ ap length (sym front) in
       let x : writtenOf w room′ ≡ done (apply t (fill t (valuesOf s m))) (next - at) (take (next - at) (drop at s) ++ drop (next - at) room) =
-      wrote ∙ ap (λ (vs : Values). writeSent t vs room) inside
+      wrote
       ∙ sym (done-reply t (valuesOf s m) room (it .range) (k .good .going) (k .good .allowed) refl front size
       (ap (λ (j : ℕ). take (next - at) (drop at s) ++ drop j room) size) (omega (arith, long))) in
       (ap count-of x, ap room-of x, ap written-scene x ∙ sym (it .after))
@@ -155,7 +154,7 @@ module _ (scene : Scene) (s : List ℕ) (at : ℕ) (bytes : Bytes s) (r : Messag
     after-update =
         let k : Taken messages GoodMessage t (drop at s) (valuesOf s m) (it .rest) =
         message-lawful .sound t (drop at s) (valuesOf s m) (it .rest) (drop-bytes at s bytes) (it .read) in
-        let n : isUpdate (u .number) ≡ true = allowed-numbered (contextOf t) (textIn s) m (k .good .allowed) u is in
+        let n : isUpdate (u .number) ≡ true = allowed-numbered (contextOf t) (placed s) m (k .good .allowed) u is in
         it .after ∙ ap (λ (x : Message). apply t (fill t (valuesOf s x))) is
         ∙ ap (apply t) (fill-update t (u .number) (tail (updateValues u)) n)
 

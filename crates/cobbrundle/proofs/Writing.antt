@@ -15,14 +15,13 @@ use Rattle.dem.specs.Recording.{writeMessage}
 use Rattle.dem.specs.Answer.{Answer, result, refusal, reply, Written, written, writeSent}
 use Rattle.dem.proofs.LayoutLaws.{Allowed, allows→}
 use Rattle.wire.specs.declared.Text.{Text}
-use Rattle.wire.specs.Cursors.{textIn}
+use Rattle.wire.specs.Cursors.{textIn, placed}
 use Rattle.message.specs.declared.Message.{Message as Sent}
 use Rattle.message.specs.declared.Message.the-variants as M
 use Rattle.message.specs.Values.{valuesBy}
 use Rattle.scene.specs.Views.{Numbered}
 use Rattle.reader.proofs.Shapes.{update-numbered}
 use Rattle.pieces.specs.Texts.{TextsOf}
-use Rattle.allowed.specs.Placed.{placed}
 
 -- ---- what is allowed
 

@@ -4,7 +4,7 @@ use Prim.Native.Nat.{ℕ}
 use Rattle.dem.specs.Scene.{Scene as Described}
 use Rattle.dem.specs.Message.{Message as Values}
 use Rattle.dem.specs.Answer.{Answer, result, atEnd, refusal, Item, Reply, reply, Written, written}
-use Rattle.wire.specs.Cursors.{textIn}
+use Rattle.wire.specs.Cursors.{placed}
 use Rattle.message.specs.Values.{valuesOf}
 use Rattle.scene.specs.Views.{sceneOf, filledValues}
 use Rattle.cobbrundle.specs.declared.MessageAnswer.{MessageAnswer}
@@ -14,9 +14,9 @@ use Rattle.cobbrundle.specs.declared.WriteAnswer.{WriteAnswer}
 use Rattle.cobbrundle.specs.declared.WriteAnswer.the-variants as W
 use Rattle.cobbrundle.specs.declared.WriteReply.{WriteReply}
 
--- Strings are bytes of the input s.
+-- Strings are at their places in the input s.
 abbrev pub answerOf : List ℕ → MessageAnswer → Answer (Item Values Values)
-answerOf s (Found m f next) = result (record { sent = valuesOf s m; filled = filledValues (textIn s) f; next = next })
+answerOf s (Found m f next) = result (record { sent = valuesOf s m; filled = filledValues (placed s) f; next = next })
 answerOf s End = atEnd
 answerOf s (Refused n p) = refusal n p
 

@@ -8,7 +8,7 @@ ghost use Rattle.dem.specs.Answer.{messageAt, writeSent};
 ghost use Rattle.parts.specs.Kinds.{contextOf as numbersOf};
 ghost use Rattle.scene.specs.Views.{sceneWith, sceneOf};
 ghost use Rattle.message.specs.Values.{valuesBy};
-ghost use Rattle.allowed.specs.Placed.{placed};
+ghost use Rattle.wire.specs.Cursors.{placed};
 ghost use Rattle.cobbrundle.specs.Replies.{replyOf, writtenOf};
 use message::Message;
 use parts::Context;

@@ -1,3 +1,4 @@
 pub mod StringLaws
 pub mod NameLaws
 pub mod NameLoops
+pub mod Places

@@ -7,7 +7,7 @@ ghost use Rattle.dem.specs.Limits.{nameLimit};
 ghost use Rattle.dem.specs.Bytes.{free};
 ghost use Rattle.dem.specs.Layout.{done};
 ghost use Rattle.dem.specs.Message.{names};
-ghost use Rattle.wire.specs.Cursors.{gotten, stringAt, parseAt, textIn};
+ghost use Rattle.wire.specs.Cursors.{gotten, stringAt, parseAt, placed};
 ghost use Rattle.strings.specs.Names.{namesIn};
 ghost use Rattle.strings.specs.Places.{roomAt, noZero, someText, noText};
 use wire::Cursor;
@@ -62,7 +62,7 @@ fn no_text(at: usize, refusal: u8) -> TextAt
 
 // A string at the cursor, tested byte by byte.
 pub fn read_text(s: &[u8], c: Cursor) -> TextAt
-    ensures { λ r. ⌜ gotten (now (s .entry)) (textIn (now (s .entry)) (r .text)) (r .cursor) ≡ stringAt (now (s .entry)) c free ⌝ }
+    ensures { λ r. ⌜ gotten (now (s .entry)) (placed (now (s .entry)) (r .text)) (r .cursor) ≡ stringAt (now (s .entry)) c free ⌝ }
     ensures within { λ r. ⌜ (r .cursor .refusal ≡ 0 → r .text .start + r .text .len + 1 ≤ length (now (s .entry))) ⌝ }
 {
     let start = c.at;
@@ -87,7 +87,7 @@ pub fn read_text(s: &[u8], c: Cursor) -> TextAt
 
 // Serverinfo's two lists of names with their closing empty names, as one place. A refused byte and a 256th name end both at once.
 pub fn read_names(s: &[u8], c: Cursor) -> TextAt
-    ensures { λ r. ⌜ gotten (now (s .entry)) (namesIn [] (textIn (now (s .entry)) (r .text))) (r .cursor) ≡ parseAt (now (s .entry)) c (names nameLimit (names nameLimit done)) ⌝ }
+    ensures { λ r. ⌜ gotten (now (s .entry)) (namesIn [] (placed (now (s .entry)) (r .text))) (r .cursor) ≡ parseAt (now (s .entry)) c (names nameLimit (names nameLimit done)) ⌝ }
     ensures within { λ r. ⌜ r .text .start + r .text .len ≤ length (now (s .entry)) ⌝ }
 {
     let start = c.at;

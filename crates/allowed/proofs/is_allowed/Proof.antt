@@ -21,7 +21,7 @@ use Rattle.message.proofs.Message as MessageType
 use Rattle.message.proofs.Message.Laws as MessageLaws
 use Rattle.parts.specs.Kinds.{contextOf}
 use Rattle.parts.specs.declared.Context.{Context}
-use Rattle.allowed.specs.Placed.{placed}
+use Rattle.wire.specs.Cursors.{placed}
 use Rattle.allowed.specs.Tests.{textTest, messageTest}
 use Rattle.allowed.proofs.MaskTests.{also}
 use Rattle.allowed.proofs.Messages.{message-law}

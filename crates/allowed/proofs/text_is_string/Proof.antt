@@ -9,10 +9,10 @@ use borrow.Author.Tests.{ne-eqb}
 use lib.ListN.{length}
 use Rattle.dem.specs.Limits.{stringLimit}
 use Rattle.dem.specs.Layout.{stringBytes}
-use Rattle.wire.specs.Cursors.{textIn}
-use Rattle.allowed.proofs.StringTests.{placed-inside, placed-outside, string-long, textIn-length, left, left-whole}
+use Rattle.strings.proofs.Places.{placed-inside}
+use Rattle.wire.specs.Cursors.{textIn, placed}
+use Rattle.allowed.proofs.StringTests.{placed-outside, string-long, textIn-length, left, left-whole}
 use Rattle.allowed.proofs.StringTests.{left-none, left-zero, left-wrong, left-step}
-use Rattle.allowed.specs.Placed.{placed}
 use Rattle.allowed.proofs.text_is_string.Statement.{statement}
 use Rattle.allowed.proofs.text_is_string.Tie as tie
 

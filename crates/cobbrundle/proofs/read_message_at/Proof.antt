@@ -16,7 +16,7 @@ use Rattle.dem.specs.Answer.{Reply, reply, result, Item}
 use Rattle.dem.proofs.ByteLaws.{bytes-of}
 use Rattle.dem.proofs.RangeLaws.{range→}
 use Rattle.dem.proofs.AnswerLaws.{item-wrong, item-end, item-past}
-use Rattle.wire.specs.Cursors.{textIn, parseAt}
+use Rattle.wire.specs.Cursors.{placed, parseAt}
 use Rattle.wire.proofs.Sticky.{here}
 use Rattle.message.specs.Values.{valuesOf}
 use Rattle.scene.specs.Views.{sceneWith, sceneOf, baselineNumbers, recordNumbers}
@@ -119,7 +119,7 @@ returns-6 c =
     let q = m .ensures ∙ ap (λ (k : Context). parseAt s (here (a .at)) (layout k)) (x .ensures (map baselineNumbers (a .scene .baselines)) (map recordNumbers (a .scene .records)) (a .scene .present)) in
     let e = c .before .before .before .if5 .left in
     let n = read-numbered s (a .at) _ (m .result .message) (m .result .cursor) (bytes-of s (λ i. c .before .before .before .before .before .before .before .before .before .before .before .before .before .shared-slice-known .given i .fits)) q e in
-    found-equal (c .before .scene-after .ensures (textIn s) n) (c .before .before .filled-in .ensures (textIn s) n) (c .place .ensures)
+    found-equal (c .before .scene-after .ensures (placed s) n) (c .before .before .filled-in .ensures (placed s) n) (c .place .ensures)
     ∙ sym (found-reply t s (a .at) (r ∙ not-false _ (c .before .before .before .before .before .before .before .before .before .before .if1 .left)) h (c .before .before .before .before .before .before .before .if4 .left) (valuesOf s (m .result .message))
     (m .result .cursor) q e)
 

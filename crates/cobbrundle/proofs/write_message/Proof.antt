@@ -16,7 +16,7 @@ use Rattle.message.specs.Values.{valuesBy}
 use Rattle.scene.specs.Views.{sceneWith, sceneOf, baselineNumbers, recordNumbers}
 use Rattle.pieces.specs.Bytes.{piecesBytes}
 use Rattle.pieces.proofs.SizeLaws.{message-size}
-use Rattle.allowed.specs.Placed.{placed}
+use Rattle.wire.specs.Cursors.{placed}
 use Rattle.cobbrundle.proofs.Writing.{write-wrong, write-ended, write-unreadable, short-reply, done-reply, placed-texts, allowed-numbered}
 use Rattle.cobbrundle.proofs.write_message.Statement.{statement}
 use Rattle.cobbrundle.proofs.write_message.Tie as tie

@@ -1,6 +1,7 @@
 -- `strings::read_text` meets its contract. The loop keeps that the bytes passed are neither the string's end nor wrong, and each way out of
 -- it says what the whole string is.
 -- Assumes nothing.
+use Rattle.strings.proofs.Places.{kept-text}
 use Prim.Native.Nat.{_+_, _-_, _≤_, _<_}
 use mathlib.Core.List.{[]}
 use borrow.Author.Needs.{needs}
@@ -35,7 +36,7 @@ unfolding stringAt
 returns c =
     let a = c .before .before .before .args in
     let n = c .before .if1 .taken in
-    rw (c .no-text .ensures) (at-kept (a .s .now) (readString stringLimit free) (a .c) [] n, λ z. absurd (n z))
+    rw (c .no-text .ensures) (kept-text (a .s .now) _ _ _ (at-kept (a .s .now) (readString stringLimit free) (a .c) [] n, λ z. absurd (n z)))
 
 room-at-requires : tie.Need-room-at-requires Inv-loop μ-loop
 room-at-requires c κs = search needs
@@ -67,12 +68,12 @@ returns-2 c =
     let a = l .before .before .before .before .args in
     let n = l .loop .n in
     let i = inside (c .before .before .before) in
-    rw (c .some-text .ensures) (
+    rw (c .some-text .ensures) (kept-text (a .s .now) _ _ _ (
       at-found (a .s .now) (readString stringLimit free) (a .c) (take n (drop (a .c .at) (a .s .now))) (a .c .at + n + 1)
           (l .before .before .if1 .left)
           (scan-found (a .s .now) stringLimit (a .c .at) free n (i .1) (i .0) (c .before .if2 .taken) (l .loop .inv .1)),
       λ z. omega arith,
-    )
+    ))
 
 no-text-requires-2 : tie.Need-no-text-requires-2 Inv-loop μ-loop
 no-text-requires-2 c κs = search needs
@@ -84,11 +85,11 @@ returns-3 c =
     let a = l .before .before .before .before .args in
     let n = l .loop .n in
     let i = inside (c .before .before .before .before) in
-    rw (c .no-text2 .ensures) (
+    rw (c .no-text2 .ensures) (kept-text (a .s .now) _ _ _ (
       at-refused (a .s .now) (readString stringLimit free) (a .c) [] (a .c .at) 7 _ (l .before .before .if1 .left)
           (scan-wrong (a .s .now) stringLimit (a .c .at) free n (i .1) (i .0) (c .before .if3 .taken) (l .loop .inv .1)) (λ z. omega arith),
       λ z. omega arith,
-    )
+    ))
 
 add-n : tie.Need-add-n Inv-loop μ-loop
 add-n c = omega arith
@@ -119,11 +120,11 @@ returns-4 c =
     let a = l .before .before .before .before .args in
     let m = l .before .room-at in
     let z = c .before .no-zero .ensures in
-    rw (c .no-text3 .ensures) (
+    rw (c .no-text3 .ensures) (kept-text (a .s .now) _ _ _ (
       at-refused (a .s .now) (readString stringLimit free) (a .c) [] (a .c .at) _ _ (l .before .before .if1 .left)
           (scan-out (a .s .now) (a .c .at) (m .result) (l .loop .n) _ free (m .ensures) (omega arith) z (l .loop .inv .1)) (no-zero-some (m .result) _ z),
       λ x. absurd (no-zero-some (m .result) _ z x),
-    )
+    ))
 
 pub read-text-spec : {M : Type 1} → statement M
 read-text-spec =

@@ -1,20 +1,19 @@
 -- A message at a place, by the ways in which its reader answers.
 -- Assumes nothing.
-use mathlib.Core.Path.{_≡_, refl, sym, ap, ap₂, _∙_, subst}
+use mathlib.Core.Path.{_≡_, sym, ap, ap₂, _∙_, subst}
 use mathlib.Core.List.{List, []}
 use mathlib.Core.Bool.{Bool, true, false, cond, not}
-use Prim.Native.Nat.{ℕ, _-_, _<_, _≤_}
+use Prim.Native.Nat.{ℕ, _-_, _<_}
 use native.Mathlib.Omega.{arith}
 use borrow.Author.Tests.{eq-eqb, ne-eqb, le-leb}
-use lib.Dec.{eqb}
 use lib.ListN.{length, drop, length-drop}
-use Rattle.dem.specs.Refusal.{code, afterDisconnect}
+use Rattle.dem.specs.Refusal.{afterDisconnect}
 use Rattle.dem.specs.Bytes.{Bytes, Result, found, refused, refusedAt, unless, require}
 use Rattle.dem.specs.Layout.{Value, Layout, parse}
 use Rattle.dem.specs.Scene.{Scene, Context, inRange}
-use Rattle.dem.specs.Message.{Message, isUpdate, layout, layoutIn, fill, apply}
-use Rattle.dem.specs.Recording.{readMessage, messages, placeIn}
-use Rattle.dem.specs.Answer.{result, refusal, Reply, reply, Item, itemOf, messageAt}
+use Rattle.dem.specs.Message.{Message, layout, layoutIn, fill, apply}
+use Rattle.dem.specs.Recording.{readMessage, messages}
+use Rattle.dem.specs.Answer.{result, refusal, reply, itemOf, messageAt}
 use Rattle.dem.proofs.ResultLaws.{clash}
 use Rattle.dem.proofs.ByteLaws.{drop-bytes}
 use Rattle.dem.proofs.LayoutLaws.{Allowed, parse-sound}
@@ -24,7 +23,6 @@ use Rattle.wire.specs.declared.Cursor.{Cursor}
 use Rattle.wire.proofs.Sticky.{here}
 use Rattle.message.specs.declared.Message.{Message as Sent}
 use Rattle.message.specs.declared.Message.the-variants as M
-use Rattle.message.specs.declared.Update.{Update}
 use Rattle.message.specs.Values.{valuesOf}
 use Rattle.scene.specs.Views.{Numbered}
 use Rattle.reader.proofs.Shapes.{update-numbered}

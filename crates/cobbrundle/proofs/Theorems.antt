@@ -1,8 +1,8 @@
 -- What the promises of the public entries say together: a message that was read and is written back has the same bytes, and an update
 -- changes no other entity.
 -- Assumes nothing.
-use mathlib.Core.Path.{_≡_, refl, sym, ap, _∙_, subst}
-use mathlib.Core.List.{List, [], _∷_, _++_}
+use mathlib.Core.Path.{_≡_, refl, sym, ap, _∙_}
+use mathlib.Core.List.{List, _∷_, _++_}
 use mathlib.Core.Logic.{_≢_}
 use mathlib.Core.Bool.{Bool, true, false}
 use Prim.Native.Nat.{ℕ, _+_, _-_, _<_, _≤_}
@@ -17,7 +17,6 @@ use Rattle.dem.specs.Layout.{Value, number, numbers, tail}
 use Rattle.dem.specs.Scene.{Scene as Described, inRange, contextOf, baselineAt, zeroRecord}
 use Rattle.dem.specs.Message.{Message as Values, isUpdate, fillUpdate, fill, apply}
 use Rattle.dem.specs.WellFormed.{GoodMessage}
-use Rattle.dem.specs.Codec.{Codec}
 use Rattle.dem.specs.Recording.{readMessage, writeMessage, messages, placeIn}
 use Rattle.dem.specs.Answer.{Answer, result, atEnd, refusal, Reply, reply, Item, Written, itemOf, messageAt, writeSent}
 use Rattle.dem.proofs.ResultLaws.{clash}
@@ -29,7 +28,7 @@ use Rattle.dem.proofs.AnswerLaws.{item-wrong, item-end, item-past, item-at, ite
 use Rattle.message.specs.declared.Message.{Message}
 use Rattle.message.specs.declared.Message.the-variants as M
 use Rattle.message.specs.declared.Update.{Update}
-use Rattle.message.specs.Values.{valuesBy, valuesOf, updateValues}
+use Rattle.message.specs.Values.{valuesOf, updateValues}
 use Rattle.scene.specs.declared.Scene.{Scene}
 use Rattle.scene.specs.declared.Filled.{Filled}
 use Rattle.scene.specs.Views.{sceneOf, filledValues}

@@ -12,7 +12,7 @@ use Rattle.dem.specs.Layout.{print, allows}
 use Rattle.dem.specs.Scene.{Scene, Context, inRange}
 use Rattle.dem.specs.Message.{Message, layout, layoutIn, fill, apply}
 use Rattle.dem.specs.Recording.{writeMessage}
-use Rattle.dem.specs.Answer.{Answer, result, refusal, reply, Written, written, writeSent}
+use Rattle.dem.specs.Answer.{result, refusal, reply, Written, written, writeSent}
 use Rattle.dem.proofs.LayoutLaws.{Allowed, allows→}
 use Rattle.wire.specs.declared.Text.{Text}
 use Rattle.wire.specs.Cursors.{textIn, placed}

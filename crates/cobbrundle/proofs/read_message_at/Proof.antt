@@ -1,8 +1,8 @@
 -- `cobbrundle::read_message_at` meets its contract: the tests in document 01's order, then what the reader answers.
 -- Assumes nothing.
-use mathlib.Core.Path.{_≡_, refl, sym, ap, _∙_}
+use mathlib.Core.Path.{_≡_, sym, ap, _∙_}
 use mathlib.Core.List.{List, map}
-use mathlib.Core.Bool.{Bool, true, false}
+use mathlib.Core.Bool.{true}
 use Prim.Native.Nat.{ℕ, _<_, _≤_}
 use native.Mathlib.Omega.{arith}
 use borrow.Author.Needs.{needs}
@@ -10,13 +10,13 @@ use borrow.Author.Tests.{not-true, not-false}
 use lib.ListN.{length}
 use Rattle.dem.specs.Layout.{Value}
 use Rattle.dem.specs.Scene.{Scene, Context, inRange}
-use Rattle.dem.specs.Message.{layout}
+use Rattle.dem.specs.Message.{layout, layoutIn}
 use Rattle.dem.specs.Recording.{messages}
 use Rattle.dem.specs.Answer.{Reply, reply, result, Item}
 use Rattle.dem.proofs.ByteLaws.{bytes-of}
 use Rattle.dem.proofs.RangeLaws.{range→}
 use Rattle.dem.proofs.AnswerLaws.{item-wrong, item-end, item-past}
-use Rattle.wire.specs.Cursors.{placed, parseAt}
+use Rattle.wire.specs.Cursors.{gotten, placed, parseAt}
 use Rattle.wire.proofs.Sticky.{here}
 use Rattle.message.specs.Values.{valuesOf}
 use Rattle.scene.specs.Views.{sceneWith, sceneOf, baselineNumbers, recordNumbers}
@@ -33,42 +33,56 @@ found t vs fs n = reply t (result (record { sent = vs; filled = fs; next = n }))
 found-equal : {t u : Scene} {vs fs gs : List Value} {m n : ℕ} → t ≡ u → fs ≡ gs → m ≡ n → found t vs fs m ≡ found u vs gs n
 found-equal {t} {u} {vs} {fs} {gs} {m} {n} p q r = λ i. found (p i) vs (q i) (r i)
 
+-- ---- what was tested
+
+-- What the range test answers, whatever the tables hold.
+ranged : (c : tie.After-in-range) → inRange (sceneOf (c .before .before .before .args .scene)) ≡ c .in-range .result
+ranged c =
+    let x = c .before .before .before .args .scene in
+    sym (c .in-range .ensures (map baselineNumbers (x .baselines)) (map recordNumbers (x .records)) (x .present))
+
+in-range′ : (c : tie.Else1) → inRange (sceneOf (c .before .before .before .before .args .scene)) ≡ true
+in-range′ c = ranged (c .before) ∙ not-false _ (c .if1 .left)
+
+inside : (c : tie.Else3) → c .before .before .before .before .before .before .args .at < length (c .before .before .before .before .before .before .args .bytes .now)
+inside c = before-end (c .before .if2 .left) (c .if3 .left)
+
+-- What the reader answers is what the layout in this scene reads to.
+read-in : (c : tie.After-read-message)
+    → gotten (c .before .before .before .before .before .before .before .before .before .args .bytes .now) (valuesOf (c .before .before .before .before .before .before .before .before .before .args .bytes .now) (c .read-message .result .message)) (c .read-message .result .cursor)
+    ≡ parseAt (c .before .before .before .before .before .before .before .before .before .args .bytes .now) (here (c .before .before .before .before .before .before .before .before .before .args .at)) (layoutIn (sceneOf (c .before .before .before .before .before .before .before .before .before .args .scene)))
+read-in c =
+    let a = c .before .before .before .before .before .before .before .before .before .args in
+    let x = a .scene in
+    c .read-message .ensures
+    ∙ ap (λ (k : Context). parseAt (a .bytes .now) (here (a .at)) (layout k))
+    (c .before .context .ensures (map baselineNumbers (x .baselines)) (map recordNumbers (x .records)) (x .present))
+
+-- ---- the answers
+
 in-range-requires : tie.Need-in-range-requires
 in-range-requires c κs = search needs
 
 returns : tie.Need-returns
 returns c =
     let a = c .before .before .before .before .args in
-    let t = sceneOf (a .scene) in
-    let r : inRange t ≡ c .before .in-range .result =
-    sym (c .before .in-range .ensures (map baselineNumbers (a .scene .baselines)) (map recordNumbers (a .scene .records)) (a .scene .present)) in
-    sym (item-wrong messages t (a .bytes .now) (a .at) (r ∙ not-true _ (c .if1 .taken)))
+    sym (item-wrong messages (sceneOf (a .scene)) (a .bytes .now) (a .at) (ranged (c .before) ∙ not-true _ (c .if1 .taken)))
 
 returns-2 : tie.Need-returns-2
 returns-2 c =
     let a = c .before .before .before .before .before .args in
-    let t = sceneOf (a .scene) in
-    let r : inRange t ≡ c .before .before .in-range .result =
-    sym (c .before .before .in-range .ensures (map baselineNumbers (a .scene .baselines)) (map recordNumbers (a .scene .records)) (a .scene .present)) in
-    sym (item-end messages t (a .bytes .now) (a .at) (r ∙ not-false _ (c .before .if1 .left)) (c .if2 .taken))
+    sym (item-end messages (sceneOf (a .scene)) (a .bytes .now) (a .at) (in-range′ (c .before)) (c .if2 .taken))
 
 returns-3 : tie.Need-returns-3
 returns-3 c =
     let a = c .before .before .before .before .before .before .args in
-    let t = sceneOf (a .scene) in
-    let r : inRange t ≡ c .before .before .before .in-range .result =
-    sym (c .before .before .before .in-range .ensures (map baselineNumbers (a .scene .baselines)) (map recordNumbers (a .scene .records)) (a .scene .present)) in
-    sym (item-past messages t (a .bytes .now) (a .at) (r ∙ not-false _ (c .before .before .if1 .left)) (c .if3 .taken))
+    sym (item-past messages (sceneOf (a .scene)) (a .bytes .now) (a .at) (in-range′ (c .before .before)) (c .if3 .taken))
 
 returns-4 : tie.Need-returns-4
 unfolding sceneWith
 returns-4 c =
     let a = c .before .before .before .before .before .before .before .args in
-    let t = sceneOf (a .scene) in
-    let r : inRange t ≡ c .before .before .before .before .in-range .result =
-    sym (c .before .before .before .before .in-range .ensures (map baselineNumbers (a .scene .baselines)) (map recordNumbers (a .scene .records)) (a .scene .present)) in
-    let h : a .at < length (a .bytes .now) = before-end (c .before .before .if2 .left) (c .before .if3 .left) in
-    sym (ended-reply t (a .bytes .now) (a .at) (r ∙ not-false _ (c .before .before .before .if1 .left)) h (c .if4 .taken))
+    sym (ended-reply (sceneOf (a .scene)) (a .bytes .now) (a .at) (in-range′ (c .before .before .before)) (inside (c .before)) (c .if4 .taken))
 
 context-requires : tie.Need-context-requires
 context-requires c κs = search needs
@@ -80,27 +94,16 @@ returns-5 : tie.Need-returns-5
 unfolding sceneWith
 returns-5 c =
     let a = c .before .before .before .before .before .before .before .before .before .before .before .args in
-    let t = sceneOf (a .scene) in
-    let r : inRange t ≡ c .before .before .before .before .before .before .before .before .in-range .result =
-    sym (c .before .before .before .before .before .before .before .before .in-range .ensures (map baselineNumbers (a .scene .baselines)) (map recordNumbers (a .scene .records)) (a .scene .present)) in
-    let h : a .at < length (a .bytes .now) = before-end (c .before .before .before .before .before .before .if2 .left) (c .before .before .before .before .before .if3 .left) in
-    let m = c .before .before .read-message in
-    let x = c .before .before .before .context in
-    sym (refused-reply t (a .bytes .now) (a .at) (r ∙ not-false _ (c .before .before .before .before .before .before .before .if1 .left)) h (c .before .before .before .before .if4 .left)
-    (valuesOf (a .bytes .now) (m .result .message)) (m .result .cursor)
-    (m .ensures ∙ ap (λ (k : Context). parseAt (a .bytes .now) (here (a .at)) (layout k)) (x .ensures (map baselineNumbers (a .scene .baselines)) (map recordNumbers (a .scene .records)) (a .scene .present))) (c .if5 .taken))
+    let m = c .before .before in
+    sym (refused-reply (sceneOf (a .scene)) (a .bytes .now) (a .at) (in-range′ (c .before .before .before .before .before .before .before)) (inside (c .before .before .before .before .before)) (c .before .before .before .before .if4 .left)
+    (valuesOf (a .bytes .now) (m .read-message .result .message)) (m .read-message .result .cursor) (read-in m) (c .if5 .taken))
 
 filled-in-requires : tie.Need-filled-in-requires
 filled-in-requires c κs = search needs
 
 scene-after-requires : tie.Need-scene-after-requires
 unfolding sceneWith
-scene-after-requires c κs =
-    let a = c .before .before .before .before .before .before .before .before .before .before .before .before .args in
-    let t = sceneOf (a .scene) in
-    let r : inRange t ≡ c .before .before .before .before .before .before .before .before .before .in-range .result =
-    sym (c .before .before .before .before .before .before .before .before .before .in-range .ensures (map baselineNumbers (a .scene .baselines)) (map recordNumbers (a .scene .records)) (a .scene .present)) in
-    omega (arith, range→ t (r ∙ not-false _ (c .before .before .before .before .before .before .before .before .if1 .left)) .statics)
+scene-after-requires c κs = omega (arith, range→ (sceneOf (c .before .before .before .before .before .before .before .before .before .before .before .before .args .scene)) (in-range′ (c .before .before .before .before .before .before .before .before)) .statics)
 
 place-requires : tie.Need-place-requires
 place-requires c κs = search needs
@@ -110,18 +113,14 @@ unfolding sceneWith
 returns-6 c =
     let a = c .before .before .before .before .before .before .before .before .before .before .before .before .before .before .args in
     let t = sceneOf (a .scene) in
-    let r : inRange t ≡ c .before .before .before .before .before .before .before .before .before .before .before .in-range .result =
-    sym (c .before .before .before .before .before .before .before .before .before .before .before .in-range .ensures (map baselineNumbers (a .scene .baselines)) (map recordNumbers (a .scene .records)) (a .scene .present)) in
     let s = a .bytes .now in
-    let h : a .at < length s = before-end (c .before .before .before .before .before .before .before .before .before .if2 .left) (c .before .before .before .before .before .before .before .before .if3 .left) in
-    let m = c .before .before .before .before .before .read-message in
-    let x = c .before .before .before .before .before .before .context in
-    let q = m .ensures ∙ ap (λ (k : Context). parseAt s (here (a .at)) (layout k)) (x .ensures (map baselineNumbers (a .scene .baselines)) (map recordNumbers (a .scene .records)) (a .scene .present)) in
+    let m = c .before .before .before .before .before in
     let e = c .before .before .before .if5 .left in
-    let n = read-numbered s (a .at) _ (m .result .message) (m .result .cursor) (bytes-of s (λ i. c .before .before .before .before .before .before .before .before .before .before .before .before .before .shared-slice-known .given i .fits)) q e in
+    let bytes = bytes-of s (λ i. c .before .before .before .before .before .before .before .before .before .before .before .before .before .shared-slice-known .given i .fits) in
+    let n = read-numbered s (a .at) _ (m .read-message .result .message) (m .read-message .result .cursor) bytes (read-in m) e in
     found-equal (c .before .scene-after .ensures (placed s) n) (c .before .before .filled-in .ensures (placed s) n) (c .place .ensures)
-    ∙ sym (found-reply t s (a .at) (r ∙ not-false _ (c .before .before .before .before .before .before .before .before .before .before .if1 .left)) h (c .before .before .before .before .before .before .before .if4 .left) (valuesOf s (m .result .message))
-    (m .result .cursor) q e)
+    ∙ sym (found-reply t s (a .at) (in-range′ (c .before .before .before .before .before .before .before .before .before .before)) (inside (c .before .before .before .before .before .before .before .before)) (c .before .before .before .before .before .before .before .if4 .left) (valuesOf s (m .read-message .result .message))
+    (m .read-message .result .cursor) (read-in m) e)
 
 pub read-message-at-spec : {M : Type 1} → statement M
 read-message-at-spec =

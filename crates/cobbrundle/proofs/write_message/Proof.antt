@@ -2,7 +2,7 @@
 -- Assumes nothing.
 use mathlib.Core.Path.{_≡_, sym, ap, _∙_}
 use mathlib.Core.List.{map}
-use Prim.Native.Nat.{_<_, _≤_}
+use mathlib.Core.Bool.{true}
 use native.Mathlib.Omega.{arith}
 use borrow.Author.Needs.{needs}
 use borrow.Author.Tests.{not-true, not-false}
@@ -10,7 +10,6 @@ use lib.ListN.{length}
 use Rattle.dem.specs.Layout.{print, allows}
 use Rattle.dem.specs.Scene.{Context, contextOf, inRange}
 use Rattle.dem.specs.Message.{layout, layoutIn}
-use Rattle.dem.specs.Recording.{writeMessage}
 use Rattle.dem.proofs.RangeLaws.{range→}
 use Rattle.message.specs.Values.{valuesBy}
 use Rattle.scene.specs.Views.{sceneWith, sceneOf, baselineNumbers, recordNumbers}
@@ -21,29 +20,44 @@ use Rattle.cobbrundle.proofs.Writing.{write-wrong, write-ended, write-u
 use Rattle.cobbrundle.proofs.write_message.Statement.{statement}
 use Rattle.cobbrundle.proofs.write_message.Tie as tie
 
+-- ---- what was tested
+
+-- What the range test answers, whatever the tables hold.
+ranged : (c : tie.After-in-range) → inRange (sceneOf (c .before .before .before .before .args .scene)) ≡ c .in-range .result
+ranged c =
+    let x = c .before .before .before .before .args .scene in
+    sym (c .in-range .ensures (map baselineNumbers (x .baselines)) (map recordNumbers (x .records)) (x .present))
+
+in-range′ : (c : tie.Else1) → inRange (sceneOf (c .before .before .before .before .before .args .scene)) ≡ true
+in-range′ c = ranged (c .before) ∙ not-false _ (c .if1 .left)
+
+allowed : (c : tie.After-is-allowed) → allows (layoutIn (sceneOf (c .before .before .before .before .before .before .before .before .args .scene))) (valuesBy (placed (c .before .before .before .before .before .before .before .before .args .text .now)) (c .before .before .before .before .before .before .before .before .args .message)) ≡ c .is-allowed .result
+allowed c =
+    let x = c .before .before .before .before .before .before .before .before .args .scene in
+    sym (c .is-allowed .ensures
+    ∙ ap (λ (k : Context). allows (layout k) (valuesBy (placed (c .before .before .before .before .before .before .before .before .args .text .now)) (c .before .before .before .before .before .before .before .before .args .message)))
+    (c .before .context .ensures (map baselineNumbers (x .baselines)) (map recordNumbers (x .records)) (x .present)))
+
+allowed′ : (c : tie.Else3) → allows (layoutIn (sceneOf (c .before .before .before .before .before .before .before .before .before .args .scene))) (valuesBy (placed (c .before .before .before .before .before .before .before .before .before .args .text .now)) (c .before .before .before .before .before .before .before .before .before .args .message)) ≡ true
+allowed′ c = allowed (c .before) ∙ not-false _ (c .if3 .left)
+
+-- The pieces' bytes are the message's.
+printed : (c : tie.After-pieces-of) → piecesBytes (c .before .before .before .before .before .before .before .before .before .before .args .text .now) (c .pieces-of .result) ≡ print (layoutIn (sceneOf (c .before .before .before .before .before .before .before .before .before .before .args .scene))) (valuesBy (placed (c .before .before .before .before .before .before .before .before .before .before .args .text .now)) (c .before .before .before .before .before .before .before .before .before .before .args .message))
+printed c =
+    let t = c .before .before .before .before .before .before .before .before .before .before .args .text .now in
+    c .pieces-of .ensures (contextOf (sceneOf (c .before .before .before .before .before .before .before .before .before .before .args .scene))) t (placed t) (placed-texts t) (allowed′ (c .before))
+
+-- ---- the answers
+
 in-range-requires : tie.Need-in-range-requires
 in-range-requires c κs = search needs
 
 returns : tie.Need-returns
-returns c =
-    let a = c .before .before .before .before .before .args in
-    let t = sceneOf (a .scene) in
-    let vs = valuesBy (placed (a .text .now)) (a .message) in
-    let b = map baselineNumbers (a .scene .baselines) in
-    let e = map recordNumbers (a .scene .records) in
-    let r : inRange t ≡ c .before .in-range .result = sym (c .before .in-range .ensures b e (a .scene .present)) in
-    sym (write-wrong t vs (a .room .now) (r ∙ not-true _ (c .if1 .taken)))
+returns c = let a = c .before .before .before .before .before .args in sym (write-wrong (sceneOf (a .scene)) _ (a .room .now) (ranged (c .before) ∙ not-true _ (c .if1 .taken)))
 
 returns-2 : tie.Need-returns-2
 unfolding sceneWith
-returns-2 c =
-    let a = c .before .before .before .before .before .before .args in
-    let t = sceneOf (a .scene) in
-    let vs = valuesBy (placed (a .text .now)) (a .message) in
-    let b = map baselineNumbers (a .scene .baselines) in
-    let e = map recordNumbers (a .scene .records) in
-    let r : inRange t ≡ c .before .before .in-range .result = sym (c .before .before .in-range .ensures b e (a .scene .present)) in
-    sym (write-ended t vs (a .room .now) (r ∙ not-false _ (c .before .if1 .left)) (c .if2 .taken))
+returns-2 c = let a = c .before .before .before .before .before .before .args in sym (write-ended (sceneOf (a .scene)) _ (a .room .now) (in-range′ (c .before)) (c .if2 .taken))
 
 context-requires : tie.Need-context-requires
 context-requires c κs = search needs
@@ -55,61 +69,28 @@ returns-3 : tie.Need-returns-3
 unfolding sceneWith
 returns-3 c =
     let a = c .before .before .before .before .before .before .before .before .before .args in
-    let t = sceneOf (a .scene) in
-    let vs = valuesBy (placed (a .text .now)) (a .message) in
-    let b = map baselineNumbers (a .scene .baselines) in
-    let e = map recordNumbers (a .scene .records) in
-    let r : inRange t ≡ c .before .before .before .before .before .in-range .result = sym (c .before .before .before .before .before .in-range .ensures b e (a .scene .present)) in
-    let w : allows (layoutIn t) vs ≡ c .before .is-allowed .result =
-    sym (c .before .is-allowed .ensures ∙ ap (λ (x : Context). allows (layout x) vs) (c .before .before .context .ensures b e (a .scene .present))) in
-    sym (write-unreadable t vs (a .room .now) (r ∙ not-false _ (c .before .before .before .before .if1 .left)) (c .before .before .before .if2 .left) (w ∙ not-true _ (c .if3 .taken)))
+    sym (write-unreadable (sceneOf (a .scene)) _ (a .room .now) (in-range′ (c .before .before .before .before)) (c .before .before .before .if2 .left)
+    (allowed (c .before) ∙ not-true _ (c .if3 .taken)))
 
 pieces-of-requires : tie.Need-pieces-of-requires
 pieces-of-requires c κs = search needs
 
 size-of-requires : tie.Need-size-of-requires
-unfolding sceneWith
-size-of-requires c κs =
-    let a = c .before .before .before .before .before .before .before .before .before .before .args in
-    let t = sceneOf (a .scene) in
-    let vs = valuesBy (placed (a .text .now)) (a .message) in
-    let b = map baselineNumbers (a .scene .baselines) in
-    let e = map recordNumbers (a .scene .records) in
-    let r : inRange t ≡ c .before .before .before .before .before .before .in-range .result = sym (c .before .before .before .before .before .before .in-range .ensures b e (a .scene .present)) in
-    let w : allows (layoutIn t) vs ≡ c .before .before .is-allowed .result =
-    sym (c .before .before .is-allowed .ensures ∙ ap (λ (x : Context). allows (layout x) vs) (c .before .before .before .context .ensures b e (a .scene .present))) in
-    let yes = w ∙ not-false _ (c .before .if3 .left) in
-    let p = c .pieces-of .ensures (contextOf t) (a .text .now) (placed (a .text .now)) (placed-texts (a .text .now)) yes in
-    omega (arith, ap length p, message-size (contextOf t) vs yes)
+size-of-requires c κs = omega (arith, ap length (printed c), message-size (contextOf (sceneOf (c .before .before .before .before .before .before .before .before .before .before .args .scene))) _ (allowed′ (c .before)))
 
 returns-4 : tie.Need-returns-4
 unfolding sceneWith
 returns-4 c =
     let a = c .before .before .before .before .before .before .before .before .before .before .before .before .args in
-    let t = sceneOf (a .scene) in
-    let vs = valuesBy (placed (a .text .now)) (a .message) in
-    let b = map baselineNumbers (a .scene .baselines) in
-    let e = map recordNumbers (a .scene .records) in
-    let r : inRange t ≡ c .before .before .before .before .before .before .before .before .in-range .result = sym (c .before .before .before .before .before .before .before .before .in-range .ensures b e (a .scene .present)) in
-    let w : allows (layoutIn t) vs ≡ c .before .before .before .before .is-allowed .result =
-    sym (c .before .before .before .before .is-allowed .ensures ∙ ap (λ (x : Context). allows (layout x) vs) (c .before .before .before .before .before .context .ensures b e (a .scene .present))) in
-    let yes = w ∙ not-false _ (c .before .before .before .if3 .left) in
-    let p = c .before .before .pieces-of .ensures (contextOf t) (a .text .now) (placed (a .text .now)) (placed-texts (a .text .now)) yes in
-    short-reply t vs (a .room .now) (r ∙ not-false _ (c .before .before .before .before .before .before .before .if1 .left)) (c .before .before .before .before .before .before .if2 .left) yes (c .before .size-of .ensures ∙ ap length p) (c .if4 .taken)
+    short-reply (sceneOf (a .scene)) _ (a .room .now) (in-range′ (c .before .before .before .before .before .before .before)) (c .before .before .before .before .before .before .if2 .left) (allowed′ (c .before .before .before))
+    (c .before .size-of .ensures ∙ ap length (printed (c .before .before))) (c .if4 .taken)
 
 put-pieces-requires : tie.Need-put-pieces-requires
 put-pieces-requires c κs = omega (arith, c .before .before .size-of .ensures, c .before .if4 .left)
 
 scene-after-requires : tie.Need-scene-after-requires
 unfolding sceneWith
-scene-after-requires c κs =
-    let a = c .before .before .before .before .before .before .before .before .before .before .before .before .before .before .before .before .args in
-    let t = sceneOf (a .scene) in
-    let vs = valuesBy (placed (a .text .now)) (a .message) in
-    let b = map baselineNumbers (a .scene .baselines) in
-    let e = map recordNumbers (a .scene .records) in
-    let r : inRange t ≡ c .before .before .before .before .before .before .before .before .before .before .before .before .in-range .result = sym (c .before .before .before .before .before .before .before .before .before .before .before .before .in-range .ensures b e (a .scene .present)) in
-    omega (arith, range→ t (r ∙ not-false _ (c .before .before .before .before .before .before .before .before .before .before .before .if1 .left)) .statics)
+scene-after-requires c κs = omega (arith, range→ (sceneOf (c .before .before .before .before .before .before .before .before .before .before .before .before .before .before .before .before .args .scene)) (in-range′ (c .before .before .before .before .before .before .before .before .before .before .before)) .statics)
 
 same-length : tie.Need-same-length
 same-length c = search needs
@@ -119,17 +100,12 @@ unfolding sceneWith
 returns-5 c =
     let a = c .before .before .before .before .before .before .before .before .before .before .before .before .before .before .before .before .before .args in
     let t = sceneOf (a .scene) in
-    let vs = valuesBy (placed (a .text .now)) (a .message) in
-    let b = map baselineNumbers (a .scene .baselines) in
-    let e = map recordNumbers (a .scene .records) in
-    let r : inRange t ≡ c .before .before .before .before .before .before .before .before .before .before .before .before .before .in-range .result = sym (c .before .before .before .before .before .before .before .before .before .before .before .before .before .in-range .ensures b e (a .scene .present)) in
-    let w : allows (layoutIn t) vs ≡ c .before .before .before .before .before .before .before .before .before .is-allowed .result =
-    sym (c .before .before .before .before .before .before .before .before .before .is-allowed .ensures ∙ ap (λ (x : Context). allows (layout x) vs) (c .before .before .before .before .before .before .before .before .before .before .context .ensures b e (a .scene .present))) in
-    let yes = w ∙ not-false _ (c .before .before .before .before .before .before .before .before .if3 .left) in
-    let p = c .before .before .before .before .before .before .before .pieces-of .ensures (contextOf t) (a .text .now) (placed (a .text .now)) (placed-texts (a .text .now)) yes in
+    let text = placed (a .text .now) in
+    let yes = allowed′ (c .before .before .before .before .before .before .before .before) in
+    let p = printed (c .before .before .before .before .before .before .before) in
     let u = c .before .before .before .put-pieces in
-    done-reply t vs (a .room .now) (r ∙ not-false _ (c .before .before .before .before .before .before .before .before .before .before .before .before .if1 .left)) (c .before .before .before .before .before .before .before .before .before .before .before .if2 .left) yes
-    (c .scene-after .ensures (placed (a .text .now)) (allowed-numbered (contextOf t) (placed (a .text .now)) (a .message) yes)) p (u .ensures .1) (u .ensures .0)
+    done-reply t (valuesBy text (a .message)) (a .room .now) (in-range′ (c .before .before .before .before .before .before .before .before .before .before .before .before)) (c .before .before .before .before .before .before .before .before .before .before .before .if2 .left) yes
+    (c .scene-after .ensures text (allowed-numbered (contextOf t) text (a .message) yes)) p (u .ensures .1) (u .ensures .0)
     (omega (arith, c .before .before .before .before .before .before .size-of .ensures, c .before .before .before .before .before .if4 .left, ap length p))
 
 pub write-message-spec : {M : Type 1} → statement M

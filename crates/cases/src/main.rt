@@ -1,5 +1,6 @@
-// The marked cases of document 01, every refusal that a message can meet, and every bit of the masks, through the public entries: what
-// each answers, what is written back into room that held EE, and what the scene then holds. Numbers are shown by their bits.
+// The marked cases of document 01 but P11 (the track line), every refusal that a message can meet, and every bit of the masks, through
+// the public entries: what each answers, what is written back into room that held EE, and what the scene then holds. Numbers are shown
+// by their bits.
 use cobbrundle::MessageAnswer;
 use cobbrundle::WriteAnswer;
 use message::Look;

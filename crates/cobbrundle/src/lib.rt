@@ -1,19 +1,14 @@
 // The library's entries: any bytes, any scene and any record get an answer. None has a `requires`.
 ghost use mathlib.Core.Path.{_≡_};
-ghost use mathlib.Core.List.{List};
-ghost use mathlib.Core.Bool.{Bool};
-ghost use Prim.Native.Nat.{ℕ, _-_};
-ghost use Rattle.dem.specs.Scene.{fresh, contextOf};
+ghost use Prim.Native.Nat.{_-_};
+ghost use Rattle.dem.specs.Scene.{fresh};
 ghost use Rattle.dem.specs.Answer.{messageAt, writeSent};
-ghost use Rattle.parts.specs.Kinds.{contextOf as numbersOf};
-ghost use Rattle.scene.specs.Views.{sceneWith, sceneOf};
+ghost use Rattle.scene.specs.Views.{sceneOf};
 ghost use Rattle.message.specs.Values.{valuesBy};
 ghost use Rattle.wire.specs.Cursors.{placed};
 ghost use Rattle.cobbrundle.specs.Replies.{replyOf, writtenOf};
 use message::Message;
-use parts::Context;
 use scene::Filled;
-use scene::Rest;
 use scene::Scene;
 
 // A message as sent, its filled-in form and the place of what follows it; or "end"; or a refusal's number and place.
@@ -46,17 +41,6 @@ pub fn start() -> Scene
     ensures { λ r. ⌜ sceneOf r ≡ fresh ⌝ }
 {
     scene::cleared_scene(0)
-}
-
-fn context(x: Rest) -> Context
-    ensures { λ r. ⌜ ((b e : List (List ℕ)) (p : List Bool) → numbersOf r ≡ contextOf (sceneWith b e p x)) ⌝ }
-{
-    Context {
-        limit: x.limit,
-        statics: x.statics,
-        timed: x.timed,
-        time: x.time,
-    }
 }
 
 // The place of the bytes that are left from a cursor on.
@@ -98,7 +82,7 @@ pub fn read_message_at(scene: Scene, bytes: &[u8], at: usize) -> MessageReply
             scene,
         };
     }
-    let m = reader::read_message(bytes, at, context(rest));
+    let m = reader::read_message(bytes, at, blocks::context(rest));
     let message = m.message;
     let c = m.cursor;
     let refusal = c.refusal;
@@ -135,7 +119,7 @@ pub fn write_message(scene: Scene, message: Message, text: &[u8], room: &mut [u8
             scene,
         };
     }
-    if !allowed::is_allowed(message, text, context(rest)) {
+    if !allowed::is_allowed(message, text, blocks::context(rest)) {
         return WriteReply {
             answer: WriteAnswer::Refused(13, 0),
             scene,

@@ -2,6 +2,7 @@ pub mod ResultLaws
 pub mod ByteLaws
 pub mod LayoutLaws
 pub mod CodecLaws
+pub mod RunLaws
 pub mod MaskedLaws
 pub mod UpdateLaws
 pub mod MessageLaws

@@ -10,7 +10,7 @@ use Rattle.dem.specs.Bytes.{Result, found, refused}
 use Rattle.dem.specs.Layout.{allows}
 use Rattle.dem.specs.Scene.{Scene, fresh, inRange}
 use Rattle.dem.specs.Message.{Message, layoutIn}
-use Rattle.dem.specs.Codec.{Codec, after}
+use Rattle.dem.specs.Codec.{Codec, after, Run, runMost}
 use Rattle.dem.specs.Recording.{messages, Block, blocks, writeMessage, Recording, Reading, readRecording, fillRecording, sceneAfter}
 use Rattle.dem.specs.Recording.{writeReading, placeIn}
 
@@ -97,16 +97,44 @@ writeSent s m room =
     (cond (s .ended) (written (reply s (refusal (code afterDisconnect) 0)) room)
     (cond (not (allows (layoutIn s) m)) (written (reply s (refusal (code unreadable) 0)) room) w))
 
+-- ---- blocks
+
+abbrev pub countMessages : List Block → ℕ
+countMessages [] = 0
+countMessages (b ∷ bs) = length (b .messages) + countMessages bs
+
+-- Of a run of blocks: how many were read, and their messages; the place behind them; the refusal that was met there, 0 for none, and its
+-- place. A refusal of a block that is cut is one to take where no bytes follow.
+pub record Progress : Type 0 where
+  pub blocks : ℕ
+  pub messages : ℕ
+  pub next : ℕ
+  pub refusal : ℕ
+  pub place : ℕ
+
+abbrev pub progressOf : List ℕ → Run Scene Block → Progress
+progressOf input r =
+    record {
+      blocks = length (r .items);
+      messages = countMessages (r .items);
+      next = placeIn input (r .rest);
+      refusal = r .refusal;
+      place = placeIn input (r .left);
+    }
+
+-- As many blocks as there are from a place on, and the scene after them.
+unfoldable pub blocksAt : Scene → List ℕ → ℕ → Reply Scene Progress
+blocksAt s input place =
+    let r = runMost blocks (length input) s (drop place input) in
+    cond (not (inRange s)) (reply s (refusal (code wrongScene) 0))
+    (cond (ltb (length input) place) (reply s (refusal (code cutMessage) place)) (reply (r .state) (result (progressOf input r))))
+
 -- ---- a whole recording: its track number, and the lengths of its reading
 
 pub record Summary : Type 0 where
   pub track : ℤ
   pub blocks : ℕ
   pub messages : ℕ
-
-abbrev pub countMessages : List Block → ℕ
-countMessages [] = 0
-countMessages (b ∷ bs) = length (b .messages) + countMessages bs
 
 abbrev pub summaryOf : Reading → Summary
 summaryOf R = record { track = R .track; blocks = length (R .blocks); messages = countMessages (R .blocks) }

@@ -15,6 +15,25 @@ pub record Codec (S A B : Type 0) : Type 0 where
   pub normal : S → B → A
   pub apply : S → B → S
 
+-- As many items as could be read: these, the state after them and the bytes behind them; and the refusal that was met there, 0 for none,
+-- with the bytes from its place on.
+pub record Run (S A : Type 0) : Type 0 where
+  pub items : List A
+  pub state : S
+  pub rest : List ℕ
+  pub refusal : ℕ
+  pub left : List ℕ
+
+abbrev pub stopped : {S A : Type 0} → S → List ℕ → ℕ → List ℕ → Run S A
+stopped s rest n left = record { items = []; state = s; rest = rest; refusal = n; left = left }
+
+abbrev pub preceded : {S A : Type 0} → A → Run S A → Run S A
+preceded v r = record { items = v ∷ r .items; state = r .state; rest = r .rest; refusal = r .refusal; left = r .left }
+
+abbrev pub runOn : {S A : Type 0} → S → List ℕ → Result A → (A → List ℕ → Run S A) → Run S A
+runOn s bs (found v rest) later = preceded v (later v rest)
+runOn s bs (refused n left) later = stopped s bs n left
+
 module _ {S A B : Type 0} (c : Codec S A B) where
   -- The state after an item as sent.
   abbrev pub after : S → A → S
@@ -29,6 +48,12 @@ module _ {S A B : Type 0} (c : Codec S A B) where
 
   abbrev pub readAll : S → List ℕ → Result (List A)
   readAll s bs = readMost (length bs) s bs
+
+  -- As many items as can be read, at most so many.
+  unfoldable pub runMost : ℕ → S → List ℕ → Run S A
+  runMost zero s bs = stopped s bs 0 bs
+  runMost (suc n) s [] = stopped s [] 0 []
+  runMost (suc n) s (b ∷ bs) = runOn s (b ∷ bs) (c .read s (b ∷ bs)) (λ v rest. runMost n (after s v) rest)
 
   unfoldable pub writeAll : S → List A → List ℕ
   writeAll s [] = []

@@ -2,9 +2,10 @@
 -- Assumes nothing.
 use mathlib.Core.Path.{_≡_, refl, sym, ap, _∙_, subst}
 use mathlib.Core.List.{List, [], _∷_, map}
-use mathlib.Core.Bool.{Bool, true, false}
+use mathlib.Core.Bool.{Bool, true, false, not}
 use Prim.Native.Nat.{ℕ, _≤_, _<_}
 use borrow.Author.Tests.{le-leb}
+use lib.Dec.{T}
 use lib.ListN.{set, replicate}
 use Rattle.dem.specs.Kind
 use Rattle.dem.specs.Layout.{Value, number, numbers, tail}
@@ -12,9 +13,14 @@ use Rattle.dem.specs.Scene.{Scene, Baseline, baselineAt}
 use Rattle.dem.specs.Message.{fillUpdate, fill, apply}
 use Rattle.dem.proofs.MessageLaws.{fill-update}
 use Rattle.message.specs.Values.{updateValues, valuesBy}
+use Rattle.message.specs.declared.Entity.{Entity}
+use Rattle.message.specs.declared.Look.{Look}
+use Rattle.message.specs.declared.Pose.{Pose}
+use Rattle.message.specs.declared.Serverinfo.{Serverinfo}
 use Rattle.message.specs.declared.Update.{Update}
 use denote.Enum.Declared.{tagOf}
 use types.Run.{OneOf, miss}
+use mir.Val.{hasKey}
 use Rattle.wire.specs.declared.Text.{Text}
 use Rattle.message.proofs.Message as Messages
 use Rattle.message.specs.declared.Message.{Message as Sent}
@@ -49,13 +55,32 @@ time-tables s t m v e = (
   ap (λ (x : Sent). apply s (fill s (valuesBy t x)) .present) e,
 )
 
--- ---- the messages that change no table, by their place in the list of messages
+-- ---- the messages that change no table
+
+pub record Tableless (m : Sent) : Type 0 where
+  pub time : (v : ℕ) → m ≡ M.Time v → ⊥
+  pub serverinfo : (i : Serverinfo) → m ≡ M.Serverinfo i → ⊥
+  pub baseline : (e : Entity) (l : Look) (p : Pose) → m ≡ M.Baseline e l p → ⊥
+  pub update : (u : Update) → m ≡ M.Update u → ⊥
+
+-- A message that a match took among these, by their places in the list of messages, is none of another place.
+pub not-among : (ks : List ℕ) (m k : Sent) → OneOf ks (tagOf Messages.the-type m) → T (not (hasKey ks (tagOf Messages.the-type k))) → m ≡ k → ⊥
+not-among ks m k h q e = miss ks (tagOf Messages.the-type k) q (subst (λ (x : Sent). OneOf ks (tagOf Messages.the-type x)) e h)
 
 abbrev pub others : List ℕ
 others = 0 ∷ 1 ∷ 2 ∷ 3 ∷ 4 ∷ 5 ∷ 7 ∷ 8 ∷ 9 ∷ 11 ∷ 12 ∷ 13 ∷ 14 ∷ 15 ∷ 16 ∷ 17 ∷ 18 ∷ 19 ∷ 21 ∷ 22 ∷ 23 ∷ 24 ∷ 25 ∷ 26 ∷ 27 ∷ 28 ∷ 29 ∷ 30 ∷ 31 ∷ 32 ∷ []
 
+pub others-tableless : (m : Sent) → OneOf others (tagOf Messages.the-type m) → Tableless m
+others-tableless m h =
+    record {
+      time = λ v. not-among others m (M.Time v) h tt;
+      serverinfo = λ i. not-among others m (M.Serverinfo i) h tt;
+      baseline = λ e l p. not-among others m (M.Baseline e l p) h tt;
+      update = λ u. not-among others m (M.Update u) h tt;
+    }
+
 -- The tables of a scene after one of them.
-pub tables-kept : (s : Scene) (t : Text → List ℕ) (m : Sent) → OneOf others (tagOf Messages.the-type m)
+pub tables-kept : (s : Scene) (t : Text → List ℕ) (m : Sent) → Tableless m
     → (apply s (fill s (valuesBy t m)) .baselines ≡ s .baselines) × (apply s (fill s (valuesBy t m)) .records ≡ s .records)
     × (apply s (fill s (valuesBy t m)) .present ≡ s .present)
 unfolding apply fill
@@ -65,11 +90,11 @@ tables-kept s t (M.Stat _ _) h = (refl, refl, refl)
 tables-kept s t (M.Version _) h = (refl, refl, refl)
 tables-kept s t (M.View _) h = (refl, refl, refl)
 tables-kept s t (M.Sound _) h = (refl, refl, refl)
-tables-kept s t (M.Time _) h = absurd (miss others 6 tt h)
+tables-kept s t (M.Time v) h = absurd (h .time v refl)
 tables-kept s t (M.Print _) h = (refl, refl, refl)
 tables-kept s t (M.Stufftext _) h = (refl, refl, refl)
 tables-kept s t (M.SetAngles _ _ _) h = (refl, refl, refl)
-tables-kept s t (M.Serverinfo _) h = absurd (miss others 10 tt h)
+tables-kept s t (M.Serverinfo i) h = absurd (h .serverinfo i refl)
 tables-kept s t (M.Style _ _) h = (refl, refl, refl)
 tables-kept s t (M.Name _ _) h = (refl, refl, refl)
 tables-kept s t (M.Frags _ _) h = (refl, refl, refl)
@@ -79,7 +104,7 @@ tables-kept s t (M.Colours _ _) h = (refl, refl, refl)
 tables-kept s t (M.Particle _) h = (refl, refl, refl)
 tables-kept s t (M.Damage _ _ _) h = (refl, refl, refl)
 tables-kept s t (M.Static _ _) h = (refl, refl, refl)
-tables-kept s t (M.Baseline _ _ _) h = absurd (miss others 20 tt h)
+tables-kept s t (M.Baseline e l p) h = absurd (h .baseline e l p refl)
 tables-kept s t (M.Temporary _) h = (refl, refl, refl)
 tables-kept s t (M.Pause _) h = (refl, refl, refl)
 tables-kept s t (M.Signon _) h = (refl, refl, refl)
@@ -92,7 +117,7 @@ tables-kept s t (M.Finale _) h = (refl, refl, refl)
 tables-kept s t (M.Track _ _) h = (refl, refl, refl)
 tables-kept s t M.Sellscreen h = (refl, refl, refl)
 tables-kept s t (M.Cutscene _) h = (refl, refl, refl)
-tables-kept s t (M.Update _) h = absurd (miss others 33 tt h)
+tables-kept s t (M.Update u) h = absurd (h .update u refl)
 
 -- A scene from its tables and its rest.
 pub rest-joined : (s : Scene) (x : Rest) (b e : List (List ℕ)) (p : List Bool) → sceneWith [] [] [] x ≡ withTables [] [] [] s

@@ -7,8 +7,9 @@ ghost use mir.Syntax.{w8, w16};
 ghost use Rattle.dem.specs.Bytes.{bit};
 ghost use Rattle.dem.specs.Layout.{number, put};
 ghost use Rattle.dem.specs.Message.{updateLayout};
+ghost use Rattle.dem.specs.Scene.{Context as Numbers};
 ghost use Rattle.wire.specs.Cursors.{gotten, parseAt};
-ghost use Rattle.message.specs.Values.{valuesOf, motionValues, armsValues, suppliesValues, lookValues, poseValues, updateValues};
+ghost use Rattle.message.specs.Values.{valuesOf, clientValues, motionValues, armsValues, suppliesValues, lookValues, poseValues, updateValues};
 ghost use Rattle.parts.specs.Kinds.{contextOf, kindAt};
 ghost use Rattle.masked.specs.Slots.{slotAt, sourceLayout, motionLayout, armsLayout, suppliesLayout, highAt, entityIn, lookLayout, poseLayout};
 use message::Arms;
@@ -205,9 +206,14 @@ fn read_supplies(s: &[u8], c: Cursor) -> SuppliesAt
     SuppliesAt { supplies, cursor }
 }
 
+pub struct ClientdataAt {
+    pub data: Clientdata,
+    pub cursor: Cursor,
+}
+
 // Bits 8 and 15 are reserved. Items are sent whatever bit 9 says.
-pub fn read_clientdata(s: &[u8], c: Cursor, x: Context) -> MessageAt
-    ensures { λ r. ⌜ gotten (now (s .entry)) (valuesOf (now (s .entry)) (r .message)) (r .cursor) ≡ kindAt (now (s .entry)) c (contextOf x) 15 ⌝ }
+pub fn clientdata_at(s: &[u8], c: Cursor) -> ClientdataAt
+    ensures { λ r. ⌜ ((x : Numbers) → gotten (now (s .entry)) (number 15 ∷ clientValues (r .data)) (r .cursor) ≡ kindAt (now (s .entry)) c x 15) ⌝ }
 {
     let m = wire::read_word(s, c);
     let mask = m.value;
@@ -228,6 +234,15 @@ pub fn read_clientdata(s: &[u8], c: Cursor, x: Context) -> MessageAt
         arms,
         supplies,
     };
+    ClientdataAt { data, cursor }
+}
+
+pub fn read_clientdata(s: &[u8], c: Cursor, x: Context) -> MessageAt
+    ensures { λ r. ⌜ gotten (now (s .entry)) (valuesOf (now (s .entry)) (r .message)) (r .cursor) ≡ kindAt (now (s .entry)) c (contextOf x) 15 ⌝ }
+{
+    let d = clientdata_at(s, c);
+    let data = d.data;
+    let cursor = d.cursor;
     MessageAt {
         message: Message::Clientdata(data),
         cursor,

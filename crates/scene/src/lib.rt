@@ -475,7 +475,7 @@ fn client_stats(stats: [i32; 32], c: Client) -> [i32; 32]
     s
 }
 
-fn with_client(x: Rest, c: Client) -> Rest
+pub fn with_client(x: Rest, c: Client) -> Rest
     ensures { λ r. ⌜ ((b e : List (List ℕ)) (p : List Bool) → sceneWith b e p r ≡ apply (sceneWith b e p x) (number Kind.clientdata ∷ clientValues c)) ⌝ }
 {
     let mut y = x;

@@ -19,8 +19,9 @@ use Rattle.dem.proofs.AnswerLaws.{item-wrong, item-end, item-past}
 use Rattle.wire.specs.Cursors.{gotten, placed, parseAt}
 use Rattle.wire.proofs.Sticky.{here}
 use Rattle.message.specs.Values.{valuesOf}
+use Rattle.reader.proofs.Readings.{read-numbered}
 use Rattle.scene.specs.Views.{sceneWith, sceneOf, baselineNumbers, recordNumbers}
-use Rattle.cobbrundle.proofs.Messages.{read-numbered, ended-reply, refused-reply, found-reply}
+use Rattle.cobbrundle.proofs.Messages.{ended-reply, refused-reply, found-reply}
 use Rattle.cobbrundle.proofs.read_message_at.Statement.{statement}
 use Rattle.cobbrundle.proofs.read_message_at.Tie as tie
 

@@ -7,7 +7,7 @@ use lib.ListN.{replicate}
 use Rattle.dem.specs.Message.{apply, fill}
 use Rattle.message.specs.Values.{valuesBy}
 use Rattle.scene.specs.Views.{sceneWith, sceneOf}
-use Rattle.effects.proofs.Tables.{matched, time-tables, tables-kept, rest-joined}
+use Rattle.effects.proofs.Tables.{matched, time-tables, others-tableless, tables-kept, rest-joined}
 use borrow.Author.Needs.{needs}
 use Rattle.effects.proofs.scene_after.Statement.{statement}
 use Rattle.effects.proofs.scene_after.Tie as tie
@@ -70,7 +70,7 @@ unfolding sceneWith
 returns-5 c t n =
     let a = c .before .before .before .args in
     let s = sceneOf (a .s) in
-    let k = tables-kept s t (a .m) (c .before .before .match .keys5) in
+    let k = tables-kept s t (a .m) (others-tableless (a .m) (c .before .before .match .keys5)) in
     rest-joined (apply s (fill s (valuesBy t (a .m)))) (c .apply-rest2 .result) (s .baselines) (s .records) (s .present)
     (c .apply-rest2 .ensures (s .baselines) (s .records) (s .present) t n) (k .0) (k .1) (k .2)
 

@@ -1,9 +1,9 @@
--- `cobbrundle::context` meets its contract.
+-- `blocks::context` meets its contract.
 -- Assumes nothing.
 use mathlib.Core.Path.{refl}
 use Rattle.scene.specs.Views.{sceneWith}
-use Rattle.cobbrundle.proofs.context.Statement.{statement}
-use Rattle.cobbrundle.proofs.context.Tie as tie
+use Rattle.blocks.proofs.context.Statement.{statement}
+use Rattle.blocks.proofs.context.Tie as tie
 
 returns : tie.Need-returns
 unfolding sceneWith

@@ -1,0 +1,206 @@
+-- What each arm of the loop over messages does: a message is read, and the parts of the scene that it names are changed.
+-- Assumes nothing.
+use mathlib.Core.Path.{_≡_, refl, sym, ap, ap₂, _∙_, subst}
+use mathlib.Core.Logic.{_≢_}
+use mathlib.Core.List.{List, [], _∷_, _++_, map}
+use mathlib.Core.Bool.{Bool, true, false, not}
+use Prim.Native.Nat.{ℕ, _+_, _<_, _≤_}
+use native.Mathlib.Omega.{arith}
+use borrow.Author.Tests.{leb-true, le-leb}
+use denote.Enum.Declared.{tagOf}
+use types.Run.{OneOf}
+use mir.Val.{hasKey}
+use lib.Dec.{T}
+use lib.IntN.{pos}
+use lib.ListN.{length, drop, getD, set, replicate}
+use Rattle.dem.specs.Kind
+use Rattle.dem.specs.Limits.{entityCount}
+use Rattle.dem.specs.Bytes.{Bytes, refused}
+use Rattle.dem.specs.Layout.{Value, number, tail, put}
+use Rattle.dem.specs.Scene.{Scene, Context, contextOf, cleared, baselineAt}
+use Rattle.dem.specs.Message.{isMessage, isUpdate, kindLayout, layout, layoutIn, updateLayout, fillUpdate, fillClient, fill, apply}
+use Rattle.dem.specs.Recording.{readMessage}
+use Rattle.dem.proofs.ResultLaws.{clash}
+use Rattle.dem.proofs.LayoutLaws.{Allowed}
+use Rattle.dem.proofs.MessageLaws.{kind-update, fill-client}
+use Rattle.dem.proofs.UpdateLaws.{entity-known, UpdateRead, update-read}
+use Rattle.wire.specs.Cursors.{gotten, parseAt, placed}
+use Rattle.wire.specs.declared.Cursor.{Cursor}
+use Rattle.wire.specs.declared.Text.{Text}
+use Rattle.wire.proofs.Sticky.{here}
+use Rattle.message.proofs.Message as Messages
+use Rattle.message.specs.declared.Message.{Message as Sent}
+use Rattle.message.specs.declared.Message.the-variants as M
+use Rattle.message.specs.declared.Clientdata.{Clientdata}
+use Rattle.message.specs.declared.Entity.{Entity}
+use Rattle.message.specs.declared.Look.{Look}
+use Rattle.message.specs.declared.Pose.{Pose}
+use Rattle.message.specs.declared.Serverinfo.{Serverinfo}
+use Rattle.message.specs.declared.Update.{Update}
+use Rattle.message.specs.Values.{valuesOf, valuesBy, updateValues, clientValues as sentClientValues}
+use Rattle.parts.specs.Kinds.{kindAt}
+use Rattle.scene.specs.Views.{Numbered, baselineNumbers, recordNumbers, recordValues, clientValues, sceneWith, withTables}
+use Rattle.scene.specs.declared.Baseline.{Baseline}
+use Rattle.scene.specs.declared.Client.{Client}
+use Rattle.scene.specs.declared.Record.{Record}
+use Rattle.scene.specs.declared.Rest.{Rest}
+use Rattle.scene.proofs.Changes.{set-seen, seen-at}
+use Rattle.effects.proofs.Tables.{update-applied, matched, Tableless, not-among, tables-kept, rest-joined}
+use Rattle.reader.proofs.Arms.{update-arm}
+use Rattle.reader.proofs.Numbers.{is-message}
+use Rattle.reader.proofs.Readings.{read-allowed, read-number, read-numbered, kind-read, message-ended, message-found, message-refused}
+use Rattle.blocks.proofs.Turns.{Moved}
+
+-- The scene of these parts.
+abbrev pub held : List Baseline → List Record → List Bool → Rest → Scene
+held b e p x = sceneWith (map baselineNumbers b) (map recordNumbers e) p x
+
+abbrev pub noBaseline : Baseline
+noBaseline =
+    record {
+      look = record { model = 0; frame = 0; colormap = 0; skin = 0 };
+      pose = record { x = pos 0; angle0 = pos 0; y = pos 0; angle1 = pos 0; z = pos 0; angle2 = pos 0 };
+    }
+
+-- The rest with another time.
+abbrev pub timed : Rest → ℕ → Rest
+timed x v =
+    record {
+      stats = x .stats;
+      client = x .client;
+      view = x .view;
+      pause = x .pause;
+      statics = x .statics;
+      limit = x .limit;
+      timed = true;
+      time = v;
+      ended = x .ended;
+      players = x .players;
+    }
+
+module _ (s : List ℕ) (at : ℕ) (l : at < length s) (b : List Baseline) (e : List Record) (p : List Bool) (x : Rest) where
+  pub ended-refused : x .ended ≡ true → readMessage (held b e p x) (drop at s) ≡ refused 11 (drop at s)
+  unfolding sceneWith
+  ended-refused q = message-ended (held b e p x) s at q
+
+  module _ (going : x .ended ≡ false) where
+    -- What the reader of kind n answers, where the number stands here.
+    pub kind-parsed : (n : ℕ) (k : Context) (vs : List Value) (c : Cursor) → n ≡ getD s at 0 → isMessage n ≡ true → n ≢ Kind.static
+        → k ≡ contextOf (held b e p x) → gotten s vs c ≡ kindAt s (here (at + 1)) k n → gotten s vs c ≡ parseAt s (here at) (layoutIn (held b e p x))
+    kind-parsed n k vs c en im ns ek q =
+        kind-read s at n (contextOf (held b e p x)) vs c l en im ns (q ∙ ap (λ (y : Context). kindAt s (here (at + 1)) y n) ek)
+
+    module _ (vs : List Value) (c : Cursor) (q : gotten s vs c ≡ parseAt s (here at) (layoutIn (held b e p x))) where
+      pub parsed-refused : (c .refusal ≡ 0 → ⊥) → readMessage (held b e p x) (drop at s) ≡ refused (c .refusal) (drop at s)
+      unfolding sceneWith
+      parsed-refused z = message-refused (held b e p x) s at going vs c q z
+
+      pub parsed-moved : c .refusal ≡ 0 → (t : Scene) → apply (held b e p x) (fill (held b e p x) vs) ≡ t → Moved s (held b e p x) at t (c .at)
+      unfolding sceneWith
+      parsed-moved z t f = record { values = vs; read = message-found (held b e p x) s at going vs c q z; scene = f }
+
+    -- ---- an update
+
+    module _ (h : Bytes s) (n : ℕ) (en : n ≡ getD s at 0) (large : 128 ≤ n) (u : Update) (c : Cursor)
+        (q : gotten s (updateValues u) c ≡ put (number n) (parseAt s (here (at + 1)) (updateLayout n))) where
+      pub update-parsed : gotten s (updateValues u) c ≡ parseAt s (here at) (layoutIn (held b e p x))
+      update-parsed =
+          kind-parsed n (contextOf (held b e p x)) (updateValues u) c en
+          (is-message n (λ z. omega arith) (λ z. omega arith) (λ y z. omega arith)) (λ z. omega arith) refl
+          (update-arm s (here (at + 1)) (contextOf (held b e p x)) n (updateValues u) c large q)
+
+      module _ (z : c .refusal ≡ 0) where
+        allowed : Allowed (layoutIn (held b e p x)) (updateValues u)
+        allowed = read-allowed s at (layoutIn (held b e p x)) (updateValues u) c update-parsed h z
+
+        numbered : isUpdate (u .number) ≡ true
+        numbered = read-numbered s at (contextOf (held b e p x)) (M.Update u) c h update-parsed z u refl
+
+        pub update-known : u .entity .0 < entityCount
+        unfolding layout
+        update-known =
+            let r : UpdateRead [] (u .number) (tail (updateValues u)) =
+            update-read [] (u .number) (tail (updateValues u))
+            (subst (λ (y : Rattle.dem.specs.Layout.Layout). Allowed y (tail (updateValues u))) (kind-update (contextOf (held b e p x)) (u .number) numbered) (allowed .2)) in
+            let y : number (u .high) ∷ number (u .entity .0) ∷ tail (tail (tail (updateValues u))) ≡ number (r .high) ∷ number (r .entity) ∷ r .fields = r .all in
+            let w : u .entity .0 ≡ r .entity = cc in
+            subst (λ (k : ℕ). k < entityCount) (sym w) (r .known)
+
+        pub update-moved : (r : Record)
+            → number Kind.update ∷ number (u .entity .0) ∷ recordValues r
+            ≡ fillUpdate (baselineNumbers (getD b (u .entity .0) noBaseline)) (u .number) (tail (updateValues u))
+            → Moved s (held b e p x) at (held b (set e (u .entity .0) r) (set p (u .entity .0) true) x) (c .at)
+        unfolding sceneWith
+        update-moved r f =
+            let t = held b e p x in
+            let i = u .entity .0 in
+            parsed-moved (updateValues u) c update-parsed z _
+            (sym (ap (λ (l : List (List ℕ)). withTables (t .baselines) l (set (t .present) i true) t) (set-seen recordNumbers e i r _ refl)
+            ∙ update-applied t u r (baselineNumbers (getD b i noBaseline)) (leb-true 128 (u .number) numbered) (seen-at baselineNumbers b i noBaseline) f))
+
+    -- ---- a time, and clientdata
+
+    pub time-moved : (v : ℕ) (c : Cursor) → gotten s (number 7 ∷ number v ∷ []) c ≡ parseAt s (here at) (layoutIn (held b e p x)) → c .refusal ≡ 0
+        → Moved s (held b e p x) at (held b e (replicate 449 false) (timed x v)) (c .at)
+    unfolding sceneWith apply fill
+    time-moved v c q z = parsed-moved (number 7 ∷ number v ∷ []) c q z _ refl
+
+    pub client-moved : (d : Clientdata) (k : Client) (y : Rest) (c : Cursor)
+        → gotten s (number 15 ∷ sentClientValues d) c ≡ parseAt s (here at) (layoutIn (held b e p x)) → c .refusal ≡ 0
+        → number Kind.clientdata ∷ clientValues k ≡ fillClient (sentClientValues d)
+        → ((b e : List (List ℕ)) (p : List Bool) → sceneWith b e p y ≡ apply (sceneWith b e p x) (number Kind.clientdata ∷ clientValues k))
+        → Moved s (held b e p x) at (held b e p y) (c .at)
+    client-moved d k y c q z f g =
+        parsed-moved (number 15 ∷ sentClientValues d) c q z _
+        (ap (apply (held b e p x)) (fill-client (held b e p x) (sentClientValues d) ∙ sym f) ∙ sym (g (map baselineNumbers b) (map recordNumbers e) p))
+
+    -- ---- another message
+
+    module _ (h : Bytes s) (k : Context) (ek : k ≡ contextOf (held b e p x)) (m : Sent) (c : Cursor)
+        (q : gotten s (valuesOf s m) c ≡ parseAt s (here at) (layout k)) where
+      pub other-parsed : gotten s (valuesOf s m) c ≡ parseAt s (here at) (layoutIn (held b e p x))
+      other-parsed = q ∙ ap (λ (y : Context). parseAt s (here at) (layout y)) ek
+
+      module _ (z : c .refusal ≡ 0) where
+        pub baseline-known : (i : Entity) (o : Look) (r : Pose) → m ≡ M.Baseline i o r → i .0 < entityCount
+        unfolding layout kindLayout
+        baseline-known i o r f =
+            entity-known (i .0)
+            (subst (λ (y : Sent). Allowed (layoutIn (held b e p x)) (valuesOf s y)) f
+            (read-allowed s at (layoutIn (held b e p x)) (valuesOf s m) c other-parsed h z) .2 .1)
+
+        pub baseline-moved : (i : Entity) (o : Look) (r : Pose) → m ≡ M.Baseline i o r
+            → Moved s (held b e p x) at (held (set b (i .0) (record { look = o; pose = r })) e p x) (c .at)
+        unfolding sceneWith apply fill
+        baseline-moved i o r f =
+            let t = held b e p x in
+            parsed-moved (valuesOf s m) c other-parsed z _
+            (sym (ap (λ (l : List (List ℕ)). withTables l (t .records) (t .present) t)
+            (set-seen baselineNumbers b (i .0) (record { look = o; pose = r }) _ refl)
+            ∙ matched t (placed s) m (M.Baseline i o r) f))
+
+        pub serverinfo-moved : (i : Serverinfo) (t : Scene) → m ≡ M.Serverinfo i → t ≡ cleared (i .limit) → Moved s (held b e p x) at t (c .at)
+        unfolding apply fill
+        serverinfo-moved i t f g =
+            parsed-moved (valuesOf s m) c other-parsed z t (sym (g ∙ matched (held b e p x) (placed s) m (M.Serverinfo i) f))
+
+        pub rest-moved : (ks : List ℕ) → OneOf ks (tagOf Messages.the-type m) → T (not (hasKey ks 10)) → T (not (hasKey ks 20))
+            → 7 ≢ getD s at 0 → getD s at 0 < 128 → (y : Rest)
+            → ((b e : List (List ℕ)) (p : List Bool) (t : Text → List ℕ) → Numbered m → sceneWith [] [] [] y ≡ withTables [] [] [] (apply (sceneWith b e p x) (fill (sceneWith b e p x) (valuesBy t m))))
+            → Moved s (held b e p x) at (held b e p y) (c .at)
+        unfolding sceneWith
+        rest-moved ks o n10 n20 n7 low y f =
+            let t = held b e p x in
+            let numbered : Numbered m = read-numbered s at k m c h q z in
+            let first : (n : ℕ) (us : List Value) → valuesOf s m ≡ number n ∷ us → n ≡ getD s at 0 =
+            λ n us g. read-number s at n k us c l (sym (ap (λ (vs : List Value). gotten s vs c) g) ∙ q) z in
+            let kept = tables-kept t (placed s) m
+            (record {
+              time = λ v g. n7 (first 7 _ (ap (valuesOf s) g));
+              serverinfo = λ i. not-among ks m (M.Serverinfo i) o n10;
+              baseline = λ i o′ r. not-among ks m (M.Baseline i o′ r) o n20;
+              update = λ u g. let w = first (u .number) _ (ap (valuesOf s) g) in omega (arith, leb-true 128 (u .number) (numbered u g));
+            }) in
+            parsed-moved (valuesOf s m) c other-parsed z _
+            (sym (rest-joined (apply t (fill t (valuesOf s m))) y (t .baselines) (t .records) (t .present)
+            (f (t .baselines) (t .records) (t .present) (placed s) numbered) (kept .0) (kept .1) (kept .2)))

@@ -1,0 +1,183 @@
+// The head of a block, and the track line in front of the first.
+ghost use mathlib.Core.Path.{_≡_};
+ghost use mathlib.Core.List.{[], _∷_};
+ghost use Prim.Native.Nat.{_+_, _-_, _≤_, _<_};
+ghost use lib.Dec.{eqb};
+ghost use lib.ListN.{length, drop, getD};
+ghost use Rattle.dem.specs.Limits.{blockLimit, headSize};
+ghost use Rattle.dem.specs.Bytes.{mapResult};
+ghost use Rattle.dem.specs.Layout.{number};
+ghost use Rattle.dem.specs.Scene.{isFinite};
+ghost use Rattle.dem.specs.Track.{minusSign, readTrack, trackNumber};
+ghost use Rattle.dem.specs.Recording.{angleRule, angleLayout};
+ghost use Rattle.wire.specs.Cursors.{gotten, numberAt, parseAt};
+ghost use Rattle.heads.specs.Heads.{headRefusal, headOf, headIn};
+ghost use Rattle.heads.specs.Tracks.{answerAt, digitsFrom, trackOf};
+use wire::Cursor;
+use wire::Number;
+
+// A block's size, the bits of its three angles, and the head's refusal, 0 for none.
+pub struct HeadAt {
+    pub size: usize,
+    pub angle0: u32,
+    pub angle1: u32,
+    pub angle2: u32,
+    pub refusal: u8,
+}
+
+struct AnglesAt {
+    angle0: u32,
+    angle1: u32,
+    angle2: u32,
+    cursor: Cursor,
+}
+
+// The bits of a float that is neither infinite nor no number.
+fn is_finite(bits: u32) -> bool
+    ensures { λ r. ⌜ r ≡ isFinite bits ⌝ }
+{
+    bits / 8388608 % 256 < 255
+}
+
+fn read_angle(s: &[u8], c: Cursor) -> Number
+    ensures { λ r. ⌜ gotten (now (s .entry)) (r .value) (r .cursor) ≡ numberAt (now (s .entry)) c 4 angleRule ⌝ }
+{
+    let n = wire::read_number(s, c, 4);
+    let value = n.value;
+    let cursor = wire::refuse_if(n.cursor, !is_finite(value), 4);
+    Number { value, cursor }
+}
+
+fn read_angles(s: &[u8], c: Cursor) -> AnglesAt
+    ensures { λ r. ⌜ gotten (now (s .entry)) (number (r .angle0) ∷ number (r .angle1) ∷ number (r .angle2) ∷ []) (r .cursor) ≡ parseAt (now (s .entry)) c angleLayout ⌝ }
+{
+    let x = read_angle(s, c);
+    let y = read_angle(s, x.cursor);
+    let z = read_angle(s, y.cursor);
+    let cursor = z.cursor;
+    AnglesAt {
+        angle0: x.value,
+        angle1: y.value,
+        angle2: z.value,
+        cursor,
+    }
+}
+
+// The bytes from a place to the end; none past it.
+fn left_at(end: usize, at: usize) -> usize
+    ensures { λ r. ⌜ r ≡ end - at ⌝ }
+{
+    if at <= end { end - at } else { 0 }
+}
+
+// A head's refusal, by the bytes left, its size, and its angles' refusal.
+fn head_refusal(left: usize, size: u32, angles: u8) -> u8
+    ensures { λ r. ⌜ r ≡ headRefusal left size angles ⌝ }
+{
+    if left < 16 {
+        2
+    } else if 8000 < size {
+        3
+    } else if left < 16 + size as usize {
+        2
+    } else {
+        angles
+    }
+}
+
+// The head of the block at a place.
+pub fn read_head(s: &[u8], at: usize) -> HeadAt
+    ensures { λ r. ⌜ headOf (now (s .entry)) at r ≡ headIn (drop at (now (s .entry))) ⌝ }
+    ensures within { λ r. ⌜ (r .refusal ≡ 0 → at + headSize + r .size ≤ length (now (s .entry))) ⌝ }
+    ensures small { λ r. ⌜ (r .refusal ≡ 0 → r .size ≤ blockLimit) ⌝ }
+{
+    let n = wire::read_number(s, Cursor { at, refusal: 0 }, 4);
+    let size = n.value;
+    let a = read_angles(s, n.cursor);
+    let angles = a.cursor;
+    let refusal = head_refusal(left_at(s.len(), at), size, angles.refusal);
+    HeadAt {
+        size: size as usize,
+        angle0: a.angle0,
+        angle1: a.angle1,
+        angle2: a.angle2,
+        refusal,
+    }
+}
+
+// A track number, the place behind its line, or of the first wrong byte or the end, and the line's refusal, 0 for none.
+pub struct TrackAt {
+    pub number: i16,
+    pub at: usize,
+    pub refusal: u8,
+}
+
+struct DigitsAt {
+    value: u16,
+    at: usize,
+    refusal: u8,
+}
+
+// One to three digits, and the line feed.
+fn read_digits(s: &[u8], start: usize) -> DigitsAt
+    ensures { λ r. ⌜ answerAt (now (s .entry)) (r .value) (r .at) (r .refusal) ≡ digitsFrom (now (s .entry)) start 0 0 ⌝ }
+    ensures small { λ r. ⌜ r .value < 1000 ⌝ }
+    ensures within { λ r. ⌜ r .at ≤ length (now (s .entry)) ⌝ }
+{
+    let mut at = start;
+    let mut value: u16 = 0;
+    let mut digits: usize = 0;
+    while at < s.len() {
+        let b = s[at];
+        if (0 < digits) & (b == b'\n') {
+            return DigitsAt {
+                value,
+                at: at + 1,
+                refusal: 0,
+            };
+        }
+        let another = (digits < 3) & ((b'0' <= b) & (b < b'0' + 10));
+        if !another {
+            return DigitsAt {
+                value,
+                at,
+                refusal: 1,
+            };
+        }
+        value = value * 10 + (b - b'0') as u16;
+        digits += 1;
+        at += 1;
+    }
+    DigitsAt {
+        value,
+        at: s.len(),
+        refusal: 1,
+    }
+}
+
+fn is_negative(s: &[u8]) -> bool
+    ensures { λ r. ⌜ r ≡ eqb (getD (now (s .entry)) 0 0) minusSign ⌝ }
+{
+    if 0 < s.len() { s[0] == b'-' } else { false }
+}
+
+// The track line at the start of the bytes.
+pub fn read_track(s: &[u8]) -> TrackAt
+    ensures { λ r. ⌜ trackOf (now (s .entry)) r ≡ mapResult trackNumber (readTrack (now (s .entry))) ⌝ }
+    ensures within { λ r. ⌜ r .at ≤ length (now (s .entry)) ⌝ }
+{
+    if is_negative(s) {
+        let d = read_digits(s, 1);
+        return TrackAt {
+            number: -(d.value as i16),
+            at: d.at,
+            refusal: d.refusal,
+        };
+    }
+    let d = read_digits(s, 0);
+    TrackAt {
+        number: d.value as i16,
+        at: d.at,
+        refusal: d.refusal,
+    }
+}

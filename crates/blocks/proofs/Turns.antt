@@ -8,7 +8,7 @@ use Prim.Native.Nat.{ℕ, zero, suc, _+_, _-_, _<_, _≤_}
 use native.Mathlib.Omega.{arith}
 use borrow.Author.Tests.{eq-eqb, ne-eqb, ltb-false}
 use lib.Dec.{ltb, eqb}
-use lib.ListN.{length, take, drop, getD, length-drop, length-append, drop-of-length-le}
+use lib.ListN.{length, take, drop, getD, length-take, length-drop, length-append, drop-of-length-le}
 use lib.Seq.{take-nil, drop-cons, drop-drop, length-take-le}
 use Rattle.dem.specs.Bytes.{Bytes, Result, found, refused, mapResult, bind}
 use Rattle.dem.specs.Layout.{Value, number}
@@ -25,7 +25,7 @@ use Rattle.dem.proofs.RangeLaws.{message-range}
 use Rattle.heads.specs.Heads.{headIn, headOf}
 use Rattle.heads.specs.declared.HeadAt.{HeadAt}
 use Rattle.heads.proofs.HeadLaws.{block-head}
-use Rattle.blocks.specs.Runs.{Told, refusedAt, toldOf}
+use Rattle.blocks.specs.Runs.{Told, refusedIn, countedOf, toldOf}
 
 take-drop : (m n : ℕ) (l : List ℕ) → take m (drop n l) ≡ drop n (take (n + m) l)
 take-drop m zero l = let e : m ≡ 0 + m = omega arith in ap (λ (k : ℕ). take k l) e
@@ -59,12 +59,12 @@ module _ (s : List ℕ) (h : Bytes s) (t : Scene) (at : ℕ) (t′ : Scene) (to 
   pub moved-range : inRange t ≡ true → inRange t′ ≡ true
   moved-range r = subst (λ (x : Scene). inRange x ≡ true) (m .scene) (message-range t (m .values) (taken .good) r)
 
--- Inside the block that ends at a place and behind which at most n more are read: the blocks before it and the scene given.
-module _ (given : Scene) (d : List ℕ) (b n end : ℕ) where
+-- Inside the block from one place to another, behind b blocks, and behind which at most n more are read.
+module _ (given : Scene) (d : List ℕ) (b n start end : ℕ) where
   -- What is told, where so many messages stand before, from the messages that follow.
   abbrev pub inside : ℕ → Scene → Result (List Message) → Told
   inside m t (found vs rest) = toldOf given (length d) (b + 1) (m + length vs) (runMost blocks n (afterAll messages t vs) (drop end d))
-  inside m t (refused k left) = refusedAt given b k (length d - length (left ++ drop end d))
+  inside m t (refused k left) = refusedIn given b start k (length d - length (left ++ drop end d))
 
   inside-one : (m : ℕ) (t : Scene) (v : Message) (q : Result (List Message))
       → inside m t (mapResult (λ vs. v ∷ vs) q) ≡ inside (m + 1) (after messages t v) q
@@ -85,10 +85,10 @@ module _ (given : Scene) (d : List ℕ) (b n end : ℕ) where
         (subst Bytes e (drop-bytes at (take end d) (take-bytes end d h))))
 
     pub on-refused : (k : ℕ) → at < length (take end d) → readMessage t (drop at (take end d)) ≡ refused k (drop at (take end d))
-        → inside m t (readAll messages t (drop at (take end d))) ≡ refusedAt given b k at
+        → inside m t (readAll messages t (drop at (take end d))) ≡ refusedIn given b start k at
     on-refused k l q =
         ap (inside m t) (unrolled l ∙ ap (λ (r : Result Message). bind r (λ v rest. mapResult (λ vs. v ∷ vs) (readAll messages (after messages t v) rest))) q)
-        ∙ ap (refusedAt given b k)
+        ∙ ap (refusedIn given b start k)
         (omega (
           arith,
           length-append (drop at (take end d)) (drop end d),
@@ -131,21 +131,19 @@ module _ (d : List ℕ) (start : ℕ) (r : HeadAt) (q : headOf d start r ≡ hea
   unfolding headOf answer
   head-found z = sym q ∙ ap answer (eq-eqb (r .refusal) 0 z)
 
--- What is told of a run, with these counts.
-counted : Scene → ℕ → Run Scene Block → ℕ → ℕ → Told
-counted given input r b m =
-    cond (eqb (r .refusal) 0)
-    (record { scene = r .state; blocks = b; messages = m; at = input - length (r .left); refusal = 0 })
-    (refusedAt given b (r .refusal) (input - length (r .left)))
-
 module _ (given : Scene) (d : List ℕ) (b m n : ℕ) (t : Scene) (start : ℕ) where
-  -- Nothing more is read.
-  pub run-done : (k : ℕ) → start ≤ length d → runMost blocks k t (drop start d) ≡ stopped t (drop start d) 0 (drop start d)
-      → toldOf given (length d) b m (runMost blocks k t (drop start d)) ≡ record { scene = t; blocks = b; messages = m; at = start; refusal = 0 }
-  run-done k l e =
-      ap (toldOf given (length d) b m) e
-      ∙ (λ i. record { scene = t; blocks = x i; messages = y i; at = z i; refusal = 0 })
+  -- What is told here, where nothing more is read, or a block is refused at its head.
+  told-here : (k : ℕ) → start ≤ length d
+      → toldOf given (length d) b m (stopped t (drop start d) k (drop start d))
+      ≡ record { scene = t; blocks = b; messages = m; next = start; refusal = k; place = start }
+  told-here k l =
+      ap (λ (x : Bool). cond x (here (b + 0) (m + 0) (length d - length (drop start d))) (refusedIn given (b + 0) (length d - length (drop start d)) k (length d - length (drop start d))))
+      (eq-eqb (length (drop start d)) (length (drop start d)) refl)
+      ∙ (λ i. here (x i) (y i) (z i))
     where
+      here : ℕ → ℕ → ℕ → Told
+      here b m p = record { scene = t; blocks = b; messages = m; next = p; refusal = k; place = p }
+
       x : b + 0 ≡ b
       x = omega arith
 
@@ -164,10 +162,11 @@ module _ (given : Scene) (d : List ℕ) (b m n : ℕ) (t : Scene) (start : ℕ) 
       go (suc k) = refl
 
   -- As many blocks as wanted were read, or the input is at its end.
-  pub run-over : (most read : ℕ) → (ltb read most && ltb start (length d)) ≡ false
-      → runMost blocks (most - read) t (drop start d) ≡ stopped t (drop start d) 0 (drop start d)
+  pub run-over : (most read : ℕ) → start ≤ length d → (ltb read most && ltb start (length d)) ≡ false
+      → toldOf given (length d) b m (runMost blocks (most - read) t (drop start d))
+      ≡ record { scene = t; blocks = b; messages = m; next = start; refusal = 0; place = start }
   unfolding runMost
-  run-over most read e = go (ltb read most) refl e
+  run-over most read l e = ap (toldOf given (length d) b m) (go (ltb read most) refl e) ∙ told-here 0 l
     where
       go : (b : Bool) → ltb read most ≡ b → (b && ltb start (length d)) ≡ false
           → runMost blocks (most - read) t (drop start d) ≡ stopped t (drop start d) 0 (drop start d)
@@ -184,31 +183,26 @@ module _ (given : Scene) (d : List ℕ) (b m n : ℕ) (t : Scene) (start : ℕ) 
         subst (λ (bs : List ℕ). runMost blocks (suc n) t bs ≡ runOn t bs (readBlock t bs) (λ v rest. runMost blocks n (after blocks t v) rest))
         (sym (drop-cons d start 0 in?)) refl
 
-    pub run-refused : (k : ℕ) → k ≢ 0 → readBlock t (drop start d) ≡ refused k (drop start d)
-        → toldOf given (length d) b m (runMost blocks (suc n) t (drop start d)) ≡ refusedAt given b k start
-    run-refused k z q =
+    pub run-refused : (k : ℕ) → readBlock t (drop start d) ≡ refused k (drop start d)
+        → toldOf given (length d) b m (runMost blocks (suc n) t (drop start d))
+        ≡ record { scene = t; blocks = b; messages = m; next = start; refusal = k; place = start }
+    run-refused k q =
         ap (toldOf given (length d) b m)
         (unrolled-block ∙ ap (λ (r : Result Block). runOn t (drop start d) r (λ v rest. runMost blocks n (after blocks t v) rest)) q)
-        ∙ rw (ne-eqb k 0 z) (ap₂ (λ (x y : ℕ). refusedAt given x k y) x y)
-      where
-        x : b + 0 ≡ b
-        x = omega arith
-
-        y : length d - length (drop start d) ≡ start
-        y = omega (arith, length-drop start d)
+        ∙ told-here k (omega arith)
 
     -- A block whose head is good: its messages follow.
-    pub run-opened : Bytes d → (size : ℕ) (angles : List Value) → t .ended ≡ false → headIn (drop start d) ≡ found (size, angles) (drop (start + 16) d)
+    pub run-opened : Bytes d → start + 16 ≤ length d → (size : ℕ) (angles : List Value) → t .ended ≡ false → headIn (drop start d) ≡ found (size, angles) (drop (start + 16) d)
         → toldOf given (length d) b m (runMost blocks (suc n) t (drop start d))
-        ≡ inside given d b n (start + 16 + size) m t (readAll messages t (drop (start + 16) (take (start + 16 + size) d)))
-    unfolding applyBlock fillBlock counted
-    run-opened h size angles g q =
+        ≡ inside given d b n start (start + 16 + size) m t (readAll messages t (drop (start + 16) (take (start + 16 + size) d)))
+    unfolding applyBlock fillBlock
+    run-opened h long size angles g q =
         ap (toldOf given (length d) b m)
         (unrolled-block ∙ ap (λ (r : Result Block). runOn t (drop start d) r (λ v rest. runMost blocks n (after blocks t v) rest))
         (block-head t (drop start d) g ∙ ap (λ (r : Result (ℕ × List Value)). bind r (λ h rest. readBody t (h .0) (h .1) rest)) q))
         ∙ go (readAll messages t (take size (drop (start + 16) d))) refl
         (all-ranged messages GoodMessage message-lawful t (take size (drop (start + 16) d)) (take-bytes size _ (drop-bytes (start + 16) d h)))
-        ∙ ap (λ (bs : List ℕ). inside given d b n (start + 16 + size) m t (readAll messages t bs)) (take-drop size (start + 16) d)
+        ∙ ap (λ (bs : List ℕ). inside given d b n start (start + 16 + size) m t (readAll messages t bs)) (take-drop size (start + 16) d)
       where
         behind : drop size (drop (start + 16) d) ≡ drop (start + 16 + size) d
         behind = drop-drop size (start + 16) d
@@ -216,16 +210,33 @@ module _ (given : Scene) (d : List ℕ) (b m n : ℕ) (t : Scene) (start : ℕ) 
         go : (r : Result (List Message)) → readAll messages t (take size (drop (start + 16) d)) ≡ r → Ranged (take size (drop (start + 16) d)) r
             → toldOf given (length d) b m
             (runOn t (drop start d) (readBefore (drop size (drop (start + 16) d)) (blockOf angles) r) (λ v rest. runMost blocks n (after blocks t v) rest))
-            ≡ inside given d b n (start + 16 + size) m t r
+            ≡ inside given d b n start (start + 16 + size) m t r
         go (found vs rest) e r =
             one (runMost blocks n (afterAll messages t vs) (drop size (drop (start + 16) d)))
             ∙ ap (λ (bs : List ℕ). toldOf given (length d) (b + 1) (m + length vs) (runMost blocks n (afterAll messages t vs) bs)) behind
           where
             one : (r : Run Scene Block) → toldOf given (length d) b m (preceded (blockOf angles vs) r) ≡ toldOf given (length d) (b + 1) (m + length vs) r
-            one r = ap₂ (counted given (length d) r) (omega arith) (omega arith)
+            one r = ap₂ (countedOf given (length d) r) (omega arith) (omega arith)
         go (refused k left) e r =
-            rw (ne-eqb k 0 (λ z. omega (arith, r .0)))
-            (ap₂ (λ (x y : ℕ). refusedAt given x k y) x (ap (λ (bs : List ℕ). length d - length (left ++ bs)) behind))
+            let behind′ = drop size (drop (start + 16) d) in
+            let apart : (length (left ++ behind′) ≡ length (drop start d) → ⊥) =
+            λ z.
+            omega (
+              arith,
+              r .2,
+              length-append left behind′,
+              length-take size (drop (start + 16) d),
+              length-drop size (drop (start + 16) d),
+              length-drop (start + 16) d,
+              length-drop start d,
+            ) in
+            ap (λ (x : Bool). cond x (record { scene = t; blocks = b + 0; messages = m + 0; next = length d - length (drop start d); refusal = k; place = length d - length (left ++ behind′) })
+            (refusedIn given (b + 0) (length d - length (drop start d)) k (length d - length (left ++ behind′))))
+            (ne-eqb (length (left ++ behind′)) (length (drop start d)) apart)
+            ∙ (λ i. refusedIn given (x i) (y i) k (length d - length (left ++ behind i)))
           where
             x : b + 0 ≡ b
             x = omega arith
+
+            y : length d - length (drop start d) ≡ start
+            y = omega (arith, length-drop start d)

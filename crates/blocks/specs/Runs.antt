@@ -14,25 +14,28 @@ pub record Told : Type 0 where
   pub scene : Scene
   pub blocks : ℕ
   pub messages : ℕ
-  pub at : ℕ
+  pub next : ℕ
   pub refusal : ℕ
+  pub place : ℕ
 
--- Of a refused run, by the blocks before its refusal, the refusal and its place: the scene given, and no messages.
-abbrev pub refusedAt : Scene → ℕ → ℕ → ℕ → Told
-refusedAt given blocks refusal at = record { scene = given; blocks = blocks; messages = 0; at = at; refusal = refusal }
+-- Of a run that was refused inside the block behind these: the scene given, and no messages.
+abbrev pub refusedIn : Scene → ℕ → ℕ → ℕ → ℕ → Told
+refusedIn given blocks next refusal place =
+    record { scene = given; blocks = blocks; messages = 0; next = next; refusal = refusal; place = place }
 
--- Of a run in front of which stand so many blocks and messages, in an input of so many bytes.
+-- Of a run in an input of so many bytes, with the number of its blocks and of their messages.
+abbrev pub countedOf : Scene → ℕ → Run Scene Block → ℕ → ℕ → Told
+countedOf given input r blocks messages =
+    let next = input - length (r .rest) in
+    let place = input - length (r .left) in
+    cond (eqb (length (r .left)) (length (r .rest)))
+    (record { scene = r .state; blocks = blocks; messages = messages; next = next; refusal = r .refusal; place = place })
+    (refusedIn given blocks next (r .refusal) place)
+
+-- Of a run in front of which stand so many blocks and messages.
 abbrev pub toldOf : Scene → ℕ → ℕ → ℕ → Run Scene Block → Told
-toldOf given input blocks messages r =
-    cond (eqb (r .refusal) 0)
-    (record {
-      scene = r .state;
-      blocks = blocks + length (r .items);
-      messages = messages + countMessages (r .items);
-      at = input - length (r .left);
-      refusal = 0;
-    })
-    (refusedAt given (blocks + length (r .items)) (r .refusal) (input - length (r .left)))
+toldOf given input blocks messages r = countedOf given input r (blocks + length (r .items)) (messages + countMessages (r .items))
 
 abbrev pub answered : BlocksAt → Told
-answered r = record { scene = sceneOf (r .scene); blocks = r .blocks; messages = r .messages; at = r .at; refusal = r .refusal }
+answered r =
+    record { scene = sceneOf (r .scene); blocks = r .blocks; messages = r .messages; next = r .next; refusal = r .refusal; place = r .place }

@@ -9,7 +9,7 @@ ghost use Rattle.dem.specs.Codec.{runMost};
 ghost use Rattle.dem.specs.Recording.{blocks as recordingBlocks};
 ghost use Rattle.parts.specs.Kinds.{contextOf as numbersOf};
 ghost use Rattle.scene.specs.Views.{sceneWith, sceneOf};
-ghost use Rattle.blocks.specs.Runs.{toldOf, answered};
+ghost use Rattle.blocks.specs.Runs.{refusedIn, toldOf, answered};
 use message::Message;
 use parts::Context;
 use scene::Baseline;
@@ -17,14 +17,15 @@ use scene::Rest;
 use scene::Scene;
 use wire::Cursor;
 
-// Blocks that were read: the scene after them, how many they and their messages are, and the place behind them. Or a refusal's number
-// and place, how many blocks stand before its block, no messages, and the scene given.
+// Blocks that were read: the scene after them, how many they and their messages are, and the place behind them; and the refusal met
+// there, 0 for none, and its place. With a refusal inside a block there are no messages, and the scene is the one given.
 pub struct BlocksAt {
     pub scene: Scene,
     pub blocks: usize,
     pub messages: usize,
-    pub at: usize,
+    pub next: usize,
     pub refusal: u8,
+    pub place: usize,
 }
 
 // The numbers of a scene that the layouts of messages depend on.
@@ -36,6 +37,20 @@ pub fn context(x: Rest) -> Context
         statics: x.statics,
         timed: x.timed,
         time: x.time,
+    }
+}
+
+// A refusal inside a block.
+fn refused_in(given: Scene, blocks: usize, next: usize, refusal: u8, place: usize) -> BlocksAt
+    ensures { λ r. ⌜ answered r ≡ refusedIn (sceneOf given) blocks next refusal place ⌝ }
+{
+    BlocksAt {
+        scene: given,
+        blocks,
+        messages: 0,
+        next,
+        refusal,
+        place,
     }
 }
 
@@ -51,39 +66,23 @@ pub fn read_blocks(d: &[u8], from: usize, most: usize, given: Scene) -> BlocksAt
     let mut start = from;
     let mut blocks: usize = 0;
     let mut messages: usize = 0;
+    let mut refusal: u8 = 0;
     while (blocks < most) & (start < d.len()) {
         if rest.ended {
-            return BlocksAt {
-                scene: given,
-                blocks,
-                messages: 0,
-                at: start,
-                refusal: 11,
-            };
+            refusal = 11;
+            break;
         }
         let h = heads::read_head(d, start);
-        let head = h.refusal;
-        if head != 0 {
-            return BlocksAt {
-                scene: given,
-                blocks,
-                messages: 0,
-                at: start,
-                refusal: head,
-            };
+        refusal = h.refusal;
+        if refusal != 0 {
+            break;
         }
         let mut at = start + 16;
         let end = at + h.size;
         let s = &d[..end];
         while at < s.len() {
             if rest.ended {
-                return BlocksAt {
-                    scene: given,
-                    blocks,
-                    messages: 0,
-                    at,
-                    refusal: 11,
-                };
+                return refused_in(given, blocks, start, 11, at);
             }
             let k = s[at];
             let c = Cursor {
@@ -94,15 +93,9 @@ pub fn read_blocks(d: &[u8], from: usize, most: usize, given: Scene) -> BlocksAt
                 128..=255 => {
                     let u = masked::read_update(s, c, k);
                     let next = u.cursor;
-                    let refusal = next.refusal;
-                    if refusal != 0 {
-                        return BlocksAt {
-                            scene: given,
-                            blocks,
-                            messages: 0,
-                            at,
-                            refusal,
-                        };
+                    let wrong = next.refusal;
+                    if wrong != 0 {
+                        return refused_in(given, blocks, start, wrong, at);
                     }
                     let update = u.update;
                     let entity = update.entity;
@@ -116,15 +109,9 @@ pub fn read_blocks(d: &[u8], from: usize, most: usize, given: Scene) -> BlocksAt
                 7 => {
                     let t = plain::time_at(s, c, context(rest));
                     let next = t.cursor;
-                    let refusal = next.refusal;
-                    if refusal != 0 {
-                        return BlocksAt {
-                            scene: given,
-                            blocks,
-                            messages: 0,
-                            at,
-                            refusal,
-                        };
+                    let wrong = next.refusal;
+                    if wrong != 0 {
+                        return refused_in(given, blocks, start, wrong, at);
                     }
                     present = [false; 449];
                     rest.timed = true;
@@ -134,15 +121,9 @@ pub fn read_blocks(d: &[u8], from: usize, most: usize, given: Scene) -> BlocksAt
                 15 => {
                     let t = masked::clientdata_at(s, c);
                     let next = t.cursor;
-                    let refusal = next.refusal;
-                    if refusal != 0 {
-                        return BlocksAt {
-                            scene: given,
-                            blocks,
-                            messages: 0,
-                            at,
-                            refusal,
-                        };
+                    let wrong = next.refusal;
+                    if wrong != 0 {
+                        return refused_in(given, blocks, start, wrong, at);
                     }
                     let data = t.data;
                     let client = scene::fill_client(data);
@@ -152,15 +133,9 @@ pub fn read_blocks(d: &[u8], from: usize, most: usize, given: Scene) -> BlocksAt
                 _ => {
                     let m = reader::read_message(s, at, context(rest));
                     let next = m.cursor;
-                    let refusal = next.refusal;
-                    if refusal != 0 {
-                        return BlocksAt {
-                            scene: given,
-                            blocks,
-                            messages: 0,
-                            at,
-                            refusal,
-                        };
+                    let wrong = next.refusal;
+                    if wrong != 0 {
+                        return refused_in(given, blocks, start, wrong, at);
                     }
                     let message = m.message;
                     match message {
@@ -198,7 +173,8 @@ pub fn read_blocks(d: &[u8], from: usize, most: usize, given: Scene) -> BlocksAt
         scene,
         blocks,
         messages,
-        at: start,
-        refusal: 0,
+        next: start,
+        refusal,
+        place: start,
     }
 }

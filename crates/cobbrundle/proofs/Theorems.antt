@@ -1,5 +1,5 @@
 -- What the promises of the public entries say together: a message that was read and is written back has the same bytes, and an update
--- changes no other entity.
+-- changes no other entity; a recording is read exactly if it is well formed, and what is told of it is its reading.
 -- Assumes nothing.
 use mathlib.Core.Path.{_≡_, refl, sym, ap, _∙_}
 use mathlib.Core.List.{List, _∷_, _++_}
@@ -16,15 +16,18 @@ use Rattle.dem.specs.Kind
 use Rattle.dem.specs.Layout.{Value, number, numbers, tail}
 use Rattle.dem.specs.Scene.{Scene as Described, inRange, contextOf, baselineAt, zeroRecord}
 use Rattle.dem.specs.Message.{Message as Values, isUpdate, fillUpdate, fill, apply}
-use Rattle.dem.specs.WellFormed.{GoodMessage}
-use Rattle.dem.specs.Recording.{readMessage, writeMessage, messages, placeIn}
-use Rattle.dem.specs.Answer.{Answer, result, atEnd, refusal, Reply, reply, Item, Written, itemOf, messageAt, writeSent}
+use Rattle.dem.specs.WellFormed.{GoodMessage, WellFormed}
+use Rattle.dem.specs.Recording.{readMessage, writeMessage, messages, placeIn, Recording, readRecording, writeRecording, fillRecording}
+use Rattle.dem.specs.Recording.{sceneAfter, readingOf, reading}
+use Rattle.dem.specs.Answer.{Answer, result, atEnd, refusal, Reply, reply, Item, Written, itemOf, messageAt, writeSent, Summary, summaryOf}
+use Rattle.dem.specs.Answer.{wholeOf, whole}
 use Rattle.dem.proofs.ResultLaws.{clash}
 use Rattle.dem.proofs.ByteLaws.{drop-bytes}
 use Rattle.dem.proofs.CodecLaws.{Taken}
 use Rattle.dem.proofs.MessageLaws.{fill-update}
 use Rattle.dem.proofs.BlockLaws.{message-lawful}
-use Rattle.dem.proofs.AnswerLaws.{item-wrong, item-end, item-past, item-at, item-next}
+use Rattle.dem.proofs.RecordingLaws.{accepted-exactly}
+use Rattle.dem.proofs.AnswerLaws.{whole-accepted, item-wrong, item-end, item-past, item-at, item-next}
 use Rattle.message.specs.declared.Message.{Message}
 use Rattle.message.specs.declared.Message.the-variants as M
 use Rattle.message.specs.declared.Update.{Update}
@@ -33,11 +36,12 @@ use Rattle.scene.specs.declared.Scene.{Scene}
 use Rattle.scene.specs.declared.Filled.{Filled}
 use Rattle.scene.specs.Views.{sceneOf, filledValues}
 use Rattle.wire.specs.Cursors.{placed}
-use Rattle.cobbrundle.specs.Replies.{answerOf, replyOf, countOf, writtenOf}
+use Rattle.cobbrundle.specs.Replies.{answerOf, replyOf, countOf, writtenOf, recordingAnswerOf, recordingReplyOf}
 use Rattle.cobbrundle.specs.declared.MessageAnswer.{MessageAnswer}
 use Rattle.cobbrundle.specs.declared.MessageAnswer.the-variants.{Found}
 use Rattle.cobbrundle.specs.declared.MessageReply.{MessageReply}
 use Rattle.cobbrundle.specs.declared.WriteReply.{WriteReply}
+use Rattle.cobbrundle.specs.declared.RecordingReply.{RecordingReply}
 use Rattle.cobbrundle.proofs.Writing.{done, done-reply, allowed-numbered}
 
 -- ---- a message that was found
@@ -168,3 +172,30 @@ module _ (scene : Scene) (s : List ℕ) (at : ℕ) (bytes : Bytes s) (r : Messag
           ap (λ (x : Described). getD (x .present) j false) e ∙ getD-set-other (t .present) (u .entity .0) j true false q,
           ap (λ (x : Described). x .baselines) e,
         )
+
+-- ---- whole recordings: demand 2
+
+module _ (s : List ℕ) (bytes : Bytes s) (r : RecordingReply) (read : recordingReplyOf r ≡ whole s) where
+  abbrev told-of : Reply Described Summary → Answer Summary
+  told-of x = x .answer
+
+  -- A recording that is well formed is read: the track number and the counts are those of its reading, and the scene is the one that its
+  -- messages lead to.
+  pub well-formed-read : (w : WellFormed s)
+      → recordingReplyOf r ≡ reply (sceneAfter (fillRecording (w .recording))) (result (summaryOf (fillRecording (w .recording))))
+  well-formed-read w = read ∙ whole-accepted s (fillRecording (w .recording)) (accepted-exactly s bytes .filled w)
+
+  -- One that is read is well formed: messages that its layouts allow tile its blocks, each in the scene that all before it lead to.
+  pub read-well-formed : (a : Summary) → recordingAnswerOf (r .answer) ≡ result a → WellFormed s
+  unfolding reading whole
+  read-well-formed a e = go (readRecording s) refl
+    where
+      go : (q : Result Recording) → readRecording s ≡ q → WellFormed s
+      go (found v rest) f = accepted-exactly s bytes .exactly .0 (fillRecording v, ap readingOf f)
+      go (refused n left) f =
+          let x : _≡_ {A = Answer Summary} (result a) (refusal n (placeIn s left)) = sym e ∙ ap told-of (read ∙ ap (wholeOf s) f) in
+          clash (cc)
+
+  -- It is the only recording as sent that has these bytes, and it is written back to them.
+  pub read-back : (w v : WellFormed s) → (w .recording ≡ v .recording) × (writeRecording (w .recording) ≡ s)
+  read-back w v = (accepted-exactly s bytes .unique w v, w .bytes)

@@ -1,9 +1,11 @@
 -- What the entries of the library answer, in the definitions' terms.
-use mathlib.Core.List.{List}
+use mathlib.Core.List.{List, [], _∷_}
 use Prim.Native.Nat.{ℕ}
+use Rattle.dem.specs.Layout.{number}
 use Rattle.dem.specs.Scene.{Scene as Described}
 use Rattle.dem.specs.Message.{Message as Values}
-use Rattle.dem.specs.Answer.{Answer, result, atEnd, refusal, Item, Reply, reply, Written, written}
+use Rattle.dem.specs.Answer.{Answer, result, atEnd, refusal, Item, Reply, reply, Written, written, Track, Outline as Told}
+use Rattle.dem.specs.Answer.{Progress as Passed, Summary}
 use Rattle.wire.specs.Cursors.{placed}
 use Rattle.message.specs.Values.{valuesOf}
 use Rattle.scene.specs.Views.{sceneOf, filledValues}
@@ -13,6 +15,18 @@ use Rattle.cobbrundle.specs.declared.MessageReply.{MessageReply}
 use Rattle.cobbrundle.specs.declared.WriteAnswer.{WriteAnswer}
 use Rattle.cobbrundle.specs.declared.WriteAnswer.the-variants as W
 use Rattle.cobbrundle.specs.declared.WriteReply.{WriteReply}
+use Rattle.cobbrundle.specs.declared.TrackAnswer.{TrackAnswer}
+use Rattle.cobbrundle.specs.declared.TrackAnswer.the-variants as T
+use Rattle.cobbrundle.specs.declared.Outline.{Outline}
+use Rattle.cobbrundle.specs.declared.BlockAnswer.{BlockAnswer}
+use Rattle.cobbrundle.specs.declared.BlockAnswer.the-variants as B
+use Rattle.cobbrundle.specs.declared.BlockReply.{BlockReply}
+use Rattle.cobbrundle.specs.declared.BlocksAnswer.{BlocksAnswer}
+use Rattle.cobbrundle.specs.declared.BlocksAnswer.the-variants as P
+use Rattle.cobbrundle.specs.declared.BlocksReply.{BlocksReply}
+use Rattle.cobbrundle.specs.declared.RecordingAnswer.{RecordingAnswer}
+use Rattle.cobbrundle.specs.declared.RecordingAnswer.the-variants as R
+use Rattle.cobbrundle.specs.declared.RecordingReply.{RecordingReply}
 
 -- Strings are at their places in the input s.
 abbrev pub answerOf : List ℕ → MessageAnswer → Answer (Item Values Values)
@@ -30,3 +44,40 @@ countOf (W.Refused n p) = refusal n p
 -- With what the room holds afterwards.
 abbrev pub writtenOf : WriteReply → List ℕ → Written Described ℕ
 writtenOf r room = written (reply (sceneOf (r .scene)) (countOf (r .answer))) room
+
+-- ---- recordings
+
+abbrev pub trackAnswerOf : TrackAnswer → Answer Track
+trackAnswerOf (T.Found n next) = result (record { number = n; next = next })
+trackAnswerOf (T.Refused n p) = refusal n p
+
+abbrev pub outlineOf : Outline → Told
+outlineOf o =
+    record {
+      angles = number (o .angle0) ∷ number (o .angle1) ∷ number (o .angle2) ∷ [];
+      start = o .start;
+      messages = o .messages;
+      next = o .next;
+    }
+
+abbrev pub blockAnswerOf : BlockAnswer → Answer Told
+blockAnswerOf (B.Found o) = result (outlineOf o)
+blockAnswerOf B.End = atEnd
+blockAnswerOf (B.Refused n p) = refusal n p
+
+abbrev pub blockReplyOf : BlockReply → Reply Described Told
+blockReplyOf r = reply (sceneOf (r .scene)) (blockAnswerOf (r .answer))
+
+abbrev pub blocksAnswerOf : BlocksAnswer → Answer Passed
+blocksAnswerOf (P.Read p) = result (record { blocks = p .blocks; messages = p .messages; next = p .next; refusal = p .refusal; place = p .place })
+blocksAnswerOf (P.Refused n p) = refusal n p
+
+abbrev pub blocksReplyOf : BlocksReply → Reply Described Passed
+blocksReplyOf r = reply (sceneOf (r .scene)) (blocksAnswerOf (r .answer))
+
+abbrev pub recordingAnswerOf : RecordingAnswer → Answer Summary
+recordingAnswerOf (R.Read track blocks messages) = result (record { track = track; blocks = blocks; messages = messages })
+recordingAnswerOf (R.Refused n p) = refusal n p
+
+abbrev pub recordingReplyOf : RecordingReply → Reply Described Summary
+recordingReplyOf r = reply (sceneOf (r .scene)) (recordingAnswerOf (r .answer))

@@ -13,5 +13,6 @@ pub mod RecordingLaws
 pub mod AtLaws
 pub mod FreeLaws
 pub mod AnswerLaws
+pub mod PieceLaws
 pub mod RangeLaws
 pub mod SceneLaws

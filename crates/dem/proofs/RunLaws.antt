@@ -2,9 +2,11 @@
 -- pieces, as more bytes come.
 -- Assumes nothing.
 use mathlib.Core.Path.{_≡_, refl, sym, ap, _∙_, subst}
+use mathlib.Core.Logic.{_≢_}
 use mathlib.Core.List.{List, [], _∷_, _++_, append-assoc}
 use mathlib.Core.Bool.{Bool, true, false, cond}
 use Prim.Native.Nat.{ℕ, zero, suc, _+_, _≤_}
+use native.Mathlib.Nat.{le-refl}
 use native.Mathlib.Omega.{arith}
 use borrow.Author.Tests.{ne-eqb}
 use lib.Dec.{eqb}
@@ -86,3 +88,94 @@ module _ {S A B : Type 0} (c : Codec S A B) where
             let m = shrinks c Good law s (b ∷ bs) v rest h e in
             ap (mapResult (λ vs. v ∷ vs)) (ih (after c s v) rest (law .sound s (b ∷ bs) v rest h e .left) (omega arith))
             ∙ later v (runMost c n (after c s v) rest)
+
+    -- Where nothing is refused, a run stops behind its items.
+    pub run-left : (n : ℕ) (s : S) (bs : List ℕ) → Bytes bs → runMost c n s bs .refusal ≡ 0 → runMost c n s bs .left ≡ runMost c n s bs .rest
+    unfolding runMost
+    run-left zero s bs h z = refl
+    run-left (suc n) s [] h z = refl
+    run-left (suc n) s (b ∷ bs) h z = go (c .read s (b ∷ bs)) refl z (λ t rest. run-left n t rest)
+      where
+        go : (q : Result A) → c .read s (b ∷ bs) ≡ q → runOn s (b ∷ bs) q (λ v rest. runMost c n (after c s v) rest) .refusal ≡ 0
+            → ((t : S) (rest : List ℕ) → Bytes rest → runMost c n t rest .refusal ≡ 0 → runMost c n t rest .left ≡ runMost c n t rest .rest)
+            → runOn s (b ∷ bs) q (λ v rest. runMost c n (after c s v) rest) .left ≡ runOn s (b ∷ bs) q (λ v rest. runMost c n (after c s v) rest) .rest
+        go (found v rest) e z ih = ih (after c s v) rest (law .sound s (b ∷ bs) v rest h e .left) z
+        go (refused k left) e z ih =
+            let r : Ranged {A = A} (b ∷ bs) (refused k left) = subst (λ (q : Result A). Ranged (b ∷ bs) q) e (law .ranged s (b ∷ bs) h) in
+            let f : ⊥ = omega (arith, r .0) in
+            absurd f
+
+    -- What a run leaves stands within its bytes.
+    pub run-within : (n : ℕ) (s : S) (bs : List ℕ) → Bytes bs
+        → (length (runMost c n s bs .rest) ≤ length bs) × (length (runMost c n s bs .left) ≤ length bs)
+    unfolding runMost
+    run-within zero s bs h = (le-refl (length bs), le-refl (length bs))
+    run-within (suc n) s [] h = (le-refl 0, le-refl 0)
+    run-within (suc n) s (b ∷ bs) h = go (c .read s (b ∷ bs)) refl (λ t rest. run-within n t rest)
+      where
+        go : (q : Result A) → c .read s (b ∷ bs) ≡ q
+            → ((t : S) (rest : List ℕ) → Bytes rest → (length (runMost c n t rest .rest) ≤ length rest) × (length (runMost c n t rest .left) ≤ length rest))
+            → (length (runOn s (b ∷ bs) q (λ v rest. runMost c n (after c s v) rest) .rest) ≤ length (b ∷ bs))
+            × (length (runOn s (b ∷ bs) q (λ v rest. runMost c n (after c s v) rest) .left) ≤ length (b ∷ bs))
+        go (found v rest) e ih =
+            let k = shrinks c Good law s (b ∷ bs) v rest h e in
+            let i = ih (after c s v) rest (law .sound s (b ∷ bs) v rest h e .left) in
+            (omega (arith, i .0, k), omega (arith, i .1, k))
+        go (refused k left) e ih =
+            let r : Ranged {A = A} (b ∷ bs) (refused k left) = subst (λ (q : Result A). Ranged (b ∷ bs) q) e (law .ranged s (b ∷ bs) h) in
+            (le-refl (length (b ∷ bs)), r .2)
+
+    -- ---- in pieces
+
+    -- An item that is found is found whatever follows.
+    found-more : (s : S) (bs z : List ℕ) (v : A) (rest : List ℕ) → Bytes bs → c .read s bs ≡ found v rest → c .read s (bs ++ z) ≡ found v (rest ++ z)
+    found-more s bs z v rest h e =
+        let t : Taken c Good s bs v rest = law .sound s bs v rest h e in
+        ap (λ (l : List ℕ). c .read s (l ++ z)) (sym (t .tiles))
+        ∙ ap (c .read s) (append-assoc (c .write s v) rest z)
+        ∙ law .complete s v (rest ++ z) (t .good)
+
+    -- A run, then more bytes: its items stand, and what follows is read from where it stopped.
+    pub run-more : (n k : ℕ) (s : S) (bs z : List ℕ) → Bytes bs
+        → runMost c (length (runMost c n s bs .items) + k) s (bs ++ z)
+        ≡ joined (runMost c n s bs) (runMost c k (runMost c n s bs .state) (runMost c n s bs .rest ++ z))
+    unfolding runMost
+    run-more zero k s bs z h = let e : 0 + k ≡ k = omega arith in rw e
+    run-more (suc n) k s [] z h = let e : 0 + k ≡ k = omega arith in rw e
+    run-more (suc n) k s (b ∷ bs) z h = go (c .read s (b ∷ bs)) refl (λ t rest. run-more n k t rest z)
+      where
+        go : (q : Result A) → c .read s (b ∷ bs) ≡ q
+            → ((t : S) (rest : List ℕ) → Bytes rest
+            → runMost c (length (runMost c n t rest .items) + k) t (rest ++ z)
+            ≡ joined (runMost c n t rest) (runMost c k (runMost c n t rest .state) (runMost c n t rest .rest ++ z)))
+            → runMost c (length (runOn s (b ∷ bs) q (λ v rest. runMost c n (after c s v) rest) .items) + k) s ((b ∷ bs) ++ z)
+            ≡ joined (runOn s (b ∷ bs) q (λ v rest. runMost c n (after c s v) rest))
+            (runMost c k (runOn s (b ∷ bs) q (λ v rest. runMost c n (after c s v) rest) .state)
+            (runOn s (b ∷ bs) q (λ v rest. runMost c n (after c s v) rest) .rest ++ z))
+        go (found v rest) e ih =
+            let m : suc (length (runMost c n (after c s v) rest .items)) + k ≡ suc (length (runMost c n (after c s v) rest .items) + k) = omega arith in
+            ap (λ (j : ℕ). runMost c j s (b ∷ (bs ++ z))) m
+            ∙ ap (λ (q : Result A). runOn s (b ∷ (bs ++ z)) q (λ u r. runMost c (length (runMost c n (after c s v) rest .items) + k) (after c s u) r)) (found-more s (b ∷ bs) z v rest h e)
+            ∙ ap (preceded v) (ih (after c s v) rest (law .sound s (b ∷ bs) v rest h e .left))
+        go (refused j left) e ih = let m : 0 + k ≡ k = omega arith in rw m
+
+    -- A run that a refusal stopped which no more bytes can lift is the same, whatever follows.
+    pub run-refused : (Lifted : ℕ → Type 0)
+        → ((s : S) (bs z : List ℕ) (n : ℕ) (left : List ℕ) → Bytes bs → c .read s bs ≡ refused n left → (Lifted n → ⊥) → c .read s (bs ++ z) ≡ refused n (left ++ z))
+        → (n : ℕ) (s : S) (bs z : List ℕ) → Bytes bs → runMost c n s bs .refusal ≢ 0 → (Lifted (runMost c n s bs .refusal) → ⊥)
+        → runMost c n s (bs ++ z) ≡ followed z (runMost c n s bs)
+    unfolding runMost
+    run-refused Lifted steady zero s bs z h r i = absurd (r refl)
+    run-refused Lifted steady (suc n) s [] z h r i = absurd (r refl)
+    run-refused Lifted steady (suc n) s (b ∷ bs) z h r i = go (c .read s (b ∷ bs)) refl r i (λ t rest. run-refused Lifted steady n t rest z)
+      where
+        go : (q : Result A) → c .read s (b ∷ bs) ≡ q → runOn s (b ∷ bs) q (λ v rest. runMost c n (after c s v) rest) .refusal ≢ 0
+            → (Lifted (runOn s (b ∷ bs) q (λ v rest. runMost c n (after c s v) rest) .refusal) → ⊥)
+            → ((t : S) (rest : List ℕ) → Bytes rest → runMost c n t rest .refusal ≢ 0 → (Lifted (runMost c n t rest .refusal) → ⊥)
+            → runMost c n t (rest ++ z) ≡ followed z (runMost c n t rest))
+            → runMost c (suc n) s ((b ∷ bs) ++ z) ≡ followed z (runOn s (b ∷ bs) q (λ v rest. runMost c n (after c s v) rest))
+        go (found v rest) e r i ih =
+            ap (λ (q : Result A). runOn s (b ∷ (bs ++ z)) q (λ u y. runMost c n (after c s u) y)) (found-more s (b ∷ bs) z v rest h e)
+            ∙ ap (preceded v) (ih (after c s v) rest (law .sound s (b ∷ bs) v rest h e .left) r i)
+        go (refused k left) e r i ih =
+            ap (λ (q : Result A). runOn s (b ∷ (bs ++ z)) q (λ u y. runMost c n (after c s u) y)) (steady s (b ∷ bs) z k left h e i)

@@ -5,11 +5,13 @@ use Prim.Native.Nat.{ℕ, _+_}
 use lib.IntN.{ℤ}
 use lib.ListN.{length, drop}
 use lib.Dec.{ltb, eqb}
+use Rattle.dem.specs.Limits.{headSize}
 use Rattle.dem.specs.Refusal.{code, cutMessage, afterDisconnect, shortRoom, unreadable, wrongScene}
 use Rattle.dem.specs.Bytes.{Result, found, refused}
-use Rattle.dem.specs.Layout.{allows}
+use Rattle.dem.specs.Layout.{Value, allows}
 use Rattle.dem.specs.Scene.{Scene, fresh, inRange}
 use Rattle.dem.specs.Message.{Message, layoutIn}
+use Rattle.dem.specs.Track.{TrackLine, readTrack, trackNumber}
 use Rattle.dem.specs.Codec.{Codec, after, Run, runMost}
 use Rattle.dem.specs.Recording.{messages, Block, blocks, writeMessage, Recording, Reading, readRecording, fillRecording, sceneAfter}
 use Rattle.dem.specs.Recording.{writeReading, placeIn}
@@ -87,6 +89,22 @@ messageAt = itemAt messages
 abbrev pub blockAt : Scene → List ℕ → ℕ → Reply Scene (Item Block Block)
 blockAt = itemAt blocks
 
+-- Of a block at a place: its angles by their bits, the place and the number of its messages, and the place of what follows it.
+pub record Outline : Type 0 where
+  pub angles : List Value
+  pub start : ℕ
+  pub messages : ℕ
+  pub next : ℕ
+
+abbrev pub outlineOf : ℕ → Answer (Item Block Block) → Answer Outline
+outlineOf place (result i) =
+    result (record { angles = i .sent .angles; start = place + headSize; messages = length (i .sent .messages); next = i .next })
+outlineOf place atEnd = atEnd
+outlineOf place (refusal n p) = refusal n p
+
+abbrev pub outlineAt : Scene → List ℕ → ℕ → Reply Scene Outline
+outlineAt s input place = let r = blockAt s input place in reply (r .scene) (outlineOf place (r .answer))
+
 -- ---- a message to write as sent, into room: the number of its bytes, and the scene after it
 
 unfoldable pub writeSent : Scene → Message → List ℕ → Written Scene ℕ
@@ -128,6 +146,19 @@ blocksAt s input place =
     let r = runMost blocks (length input) s (drop place input) in
     cond (not (inRange s)) (reply s (refusal (code wrongScene) 0))
     (cond (ltb (length input) place) (reply s (refusal (code cutMessage) place)) (reply (r .state) (result (progressOf input r))))
+
+-- ---- a track line: its number, and the place of what follows it
+
+pub record Track : Type 0 where
+  pub number : ℤ
+  pub next : ℕ
+
+abbrev pub trackOf : List ℕ → Result TrackLine → Answer Track
+trackOf r (found t rest) = result (record { number = trackNumber t; next = placeIn r rest })
+trackOf r (refused n left) = refusal n (placeIn r left)
+
+unfoldable pub trackAt : List ℕ → Answer Track
+trackAt r = trackOf r (readTrack r)
 
 -- ---- a whole recording: its track number, and the lengths of its reading
 

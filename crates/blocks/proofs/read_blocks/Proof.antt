@@ -36,14 +36,15 @@ use Rattle.scene.specs.Views.{sceneWith, sceneOf}
 use Rattle.scene.specs.declared.Baseline.{Baseline}
 use Rattle.scene.specs.declared.Record.{Record}
 use Rattle.scene.specs.declared.Rest.{Rest}
-use Rattle.blocks.specs.Runs.{refusedAt, toldOf}
-use Rattle.blocks.proofs.Turns.{Moved, head-refused, head-found, moved-less, moved-range, inside, on-refused, on-moved, on-end, run-done, run-over, run-refused, run-opened}
+use Rattle.blocks.specs.Runs.{refusedIn, toldOf}
+use Rattle.blocks.proofs.Turns.{Moved, head-refused, head-found, moved-less, moved-range, inside, on-refused, on-moved, on-end, run-over, run-refused, run-opened}
 use Rattle.blocks.proofs.Arms.{held, timed, ended-refused, kind-parsed, parsed-refused, update-parsed, update-known, update-moved, time-moved, client-moved, other-parsed, baseline-known, baseline-moved, serverinfo-moved, rest-moved}
 use Rattle.blocks.proofs.read_blocks.Statement.{statement}
 use Rattle.blocks.proofs.read_blocks.Tie as tie
 use Rattle.blocks.proofs.read_blocks.Reads as reads
 use Rattle.blocks.proofs.read_blocks.Lts as lts
 use Rattle.blocks.proofs.context.Reads as context-reads
+use Rattle.blocks.proofs.refused_in.Reads as refused-in-reads
 use Rattle.heads.proofs.read_head.Reads as read-head-reads
 use Rattle.masked.proofs.clientdata_at.Reads as clientdata-at-reads
 use Rattle.masked.proofs.read_update.Reads as read-update-reads
@@ -56,25 +57,25 @@ use Rattle.scene.proofs.fill_update.Reads as fill-update-reads
 use Rattle.scene.proofs.with_client.Reads as with-client-reads
 
 abbrev Inv-loop2 : tie.InvT-loop2
-Inv-loop2 d from most given baselines₀ records₀ present₀ rest₀ start blocks messages₀ head at₀ end s baselines records present rest messages′ at =
+Inv-loop2 d from most given baselines₀ records₀ present₀ rest₀ start blocks messages₀ refusal at₀ end s baselines records present rest messages′ at =
     (messages′ + (length s - at) ≤ end) × (inRange (held baselines records present rest) ≡ true)
     × (toldOf (sceneOf given) (length d) 0 0 (runMost recordingBlocks most (sceneOf given) (drop from d))
-    ≡ inside (sceneOf given) d blocks (most - blocks - 1) end messages′ (held baselines records present rest)
+    ≡ inside (sceneOf given) d blocks (most - blocks - 1) start end messages′ (held baselines records present rest)
     (readAll messages (held baselines records present rest) (drop at s)))
 
 abbrev μ-loop2 : tie.MeasureT-loop2
-μ-loop2 d from most given baselines₀ records₀ present₀ rest₀ start blocks messages₀ head at₀ end s baselines records present rest messages at =
+μ-loop2 d from most given baselines₀ records₀ present₀ rest₀ start blocks messages₀ refusal at₀ end s baselines records present rest messages at =
     length s - at
 
 abbrev Inv-loop : tie.InvT-loop
-Inv-loop d from most given baselines₀ records₀ present₀ rest₀ start₀ blocks₀ messages₀ baselines records present rest start blocks messages =
-    (start ≤ length d) × (messages ≤ start) × (blocks ≤ most) × (inRange (held baselines records present rest) ≡ true)
+Inv-loop d from most given baselines₀ records₀ present₀ rest₀ start₀ blocks₀ messages₀ refusal₀ baselines records present rest start blocks messages refusal =
+    (refusal ≡ 0) × (start ≤ length d) × (messages ≤ start) × (blocks ≤ most) × (inRange (held baselines records present rest) ≡ true)
     × (toldOf (sceneOf given) (length d) 0 0 (runMost recordingBlocks most (sceneOf given) (drop from d))
     ≡ toldOf (sceneOf given) (length d) blocks messages
     (runMost recordingBlocks (most - blocks) (held baselines records present rest) (drop start d)))
 
 abbrev μ-loop : tie.MeasureT-loop
-μ-loop d from most given baselines₀ records₀ present₀ rest₀ start₀ blocks₀ messages₀ baselines records present rest start blocks messages =
+μ-loop d from most given baselines₀ records₀ present₀ rest₀ start₀ blocks₀ messages₀ refusal₀ baselines records present rest start blocks messages refusal =
     most - blocks
 
 -- ---- where a block is to be read
@@ -103,17 +104,17 @@ told : (c : AtBlock)
     (runMost recordingBlocks (suc (c .before .before .before .before .before .before .before .args .most - c .before .loop .blocks - 1)) (before c) (drop (c .before .loop .start) (input c)))
 told c =
     let n : c .before .before .before .before .before .before .before .args .most - c .before .loop .blocks ≡ suc (c .before .before .before .before .before .before .before .args .most - c .before .loop .blocks - 1) = omega (arith, more c) in
-    c .before .loop .inv .4
+    c .before .loop .inv .5
     ∙ ap (λ (k : ℕ). toldOf (sceneOf (c .before .before .before .before .before .before .before .args .given)) (length (input c)) (c .before .loop .blocks) (c .before .loop .messages)
     (runMost recordingBlocks k (before c) (drop (c .before .loop .start) (input c)))) n
 
-stop-block : (c : AtBlock) (k : ℕ) → k ≢ 0
+stop-block : (c : AtBlock) (k : ℕ)
     → readBlock (before c) (drop (c .before .loop .start) (input c)) ≡ refused k (drop (c .before .loop .start) (input c))
-    → refusedAt (sceneOf (c .before .before .before .before .before .before .before .args .given)) (c .before .loop .blocks) k (c .before .loop .start)
+    → record { scene = before c; blocks = c .before .loop .blocks; messages = c .before .loop .messages; next = c .before .loop .start; refusal = k; place = c .before .loop .start }
     ≡ toldOf (sceneOf (c .before .before .before .before .before .before .before .args .given)) (length (input c)) 0 0 (runMost recordingBlocks (c .before .before .before .before .before .before .before .args .most) (sceneOf (c .before .before .before .before .before .before .before .args .given)) (drop (c .before .before .before .before .before .before .before .args .from) (input c)))
-stop-block c k z q =
+stop-block c k q =
     sym (told c ∙ run-refused (sceneOf (c .before .before .before .before .before .before .before .args .given)) (input c) (c .before .loop .blocks) (c .before .loop .messages) _ (before c) (c .before .loop .start)
-    (more c .1) k z q)
+    (more c .1) k q)
 
 -- ---- where a message is to be read
 
@@ -140,10 +141,10 @@ body-bytes c = take-bytes (end c) (input (blockOf c)) (bytes (blockOf c))
 
 stop-message : (c : AtMessage) (k : ℕ)
     → readMessage (scene c) (drop (c .before .loop2 .at) (body c)) ≡ refused k (drop (c .before .loop2 .at) (body c))
-    → refusedAt (sceneOf (c .before .before .before .before .before .before .before .before .before .before .before .before .before .before .args .given)) (c .before .before .before .before .before .before .before .before .loop .blocks) k (c .before .loop2 .at)
+    → refusedIn (sceneOf (c .before .before .before .before .before .before .before .before .before .before .before .before .before .before .args .given)) (c .before .before .before .before .before .before .before .before .loop .blocks) (c .before .before .before .before .before .before .before .before .loop .start) k (c .before .loop2 .at)
     ≡ toldOf (sceneOf (c .before .before .before .before .before .before .before .before .before .before .before .before .before .before .args .given)) (length (input (blockOf c))) 0 0 (runMost recordingBlocks (c .before .before .before .before .before .before .before .before .before .before .before .before .before .before .args .most) (sceneOf (c .before .before .before .before .before .before .before .before .before .before .before .before .before .before .args .given)) (drop (c .before .before .before .before .before .before .before .before .before .before .before .before .before .before .args .from) (input (blockOf c))))
 stop-message c k q =
-    sym (c .before .loop2 .inv .2 ∙ on-refused (sceneOf (c .before .before .before .before .before .before .before .before .before .before .before .before .before .before .args .given)) (input (blockOf c)) (c .before .before .before .before .before .before .before .before .loop .blocks) _ (end c) (bytes (blockOf c)) (within c)
+    sym (c .before .loop2 .inv .2 ∙ on-refused (sceneOf (c .before .before .before .before .before .before .before .before .before .before .before .before .before .before .args .given)) (input (blockOf c)) (c .before .before .before .before .before .before .before .before .loop .blocks) _ (c .before .before .before .before .before .before .before .before .loop .start) (end c) (bytes (blockOf c)) (within c)
     (c .before .loop2 .messages) (scene c) (c .before .loop2 .at) k (c .loop2-test .taken) q)
 
 -- ---- what the readers of messages answered
@@ -152,7 +153,7 @@ abbrev Parsed : AtMessage → List Value → Cursor → Type 0
 Parsed c vs k = gotten (body c) vs k ≡ parseAt (body c) (here (c .before .loop2 .at)) (layoutIn (scene c))
 
 stop-parsed : (c : AtMessage) → c .before .loop2 .rest .ended ≡ false → (vs : List Value) (k : Cursor) → Parsed c vs k → (k .refusal ≡ 0 → ⊥)
-    → refusedAt (sceneOf (c .before .before .before .before .before .before .before .before .before .before .before .before .before .before .args .given)) (c .before .before .before .before .before .before .before .before .loop .blocks) (k .refusal) (c .before .loop2 .at)
+    → refusedIn (sceneOf (c .before .before .before .before .before .before .before .before .before .before .before .before .before .before .args .given)) (c .before .before .before .before .before .before .before .before .loop .blocks) (c .before .before .before .before .before .before .before .before .loop .start) (k .refusal) (c .before .loop2 .at)
     ≡ toldOf (sceneOf (c .before .before .before .before .before .before .before .before .before .before .before .before .before .before .args .given)) (length (input (blockOf c))) 0 0 (runMost recordingBlocks (c .before .before .before .before .before .before .before .before .before .before .before .before .before .before .args .most) (sceneOf (c .before .before .before .before .before .before .before .before .before .before .before .before .before .before .args .given)) (drop (c .before .before .before .before .before .before .before .before .before .before .before .before .before .before .args .from) (input (blockOf c))))
 stop-parsed c g vs k q z =
     stop-message c (k .refusal)
@@ -251,11 +252,12 @@ moved c =
     (w .2 .ensures) (w .4 .left) (w .9 .result) (w .9 .ensures)))))))
     (c .match .came)
 
--- src/lib.rt:54:5
+-- src/lib.rt:70:5
 loop-holds : tie.Need-loop-holds Inv-loop2 μ-loop2 Inv-loop μ-loop
 loop-holds c =
     let a = c .before .before .before .before .before .args in
     let n : a .most ≡ a .most - 0 = omega arith in (
+      refl,
       c .before .before .before .before .before .pre .0,
       omega arith,
       omega arith,
@@ -263,36 +265,23 @@ loop-holds c =
       ap (λ (k : ℕ). toldOf (sceneOf (a .given)) (length (a .d .now)) 0 0 (runMost recordingBlocks k (sceneOf (a .given)) (drop (a .from) (a .d .now)))) n,
     )
 
--- src/lib.rt:56:13
-returns : tie.Need-returns Inv-loop2 μ-loop2 Inv-loop μ-loop
-unfolding sceneWith
-returns c = stop-block (c .before) 11 (λ z. omega arith) (block-ended (before (c .before)) (drop (c .before .before .loop .start) (input (c .before))) (c .if1 .taken))
-
--- src/lib.rt:58:13
+-- src/lib.rt:75:13
 read-head-requires : tie.Need-read-head-requires Inv-loop2 μ-loop2 Inv-loop μ-loop
 read-head-requires c κs = search needs
 
--- src/lib.rt:61:13
-returns-2 : tie.Need-returns-2 Inv-loop2 μ-loop2 Inv-loop μ-loop
-unfolding sceneWith
-returns-2 c =
-    let b = c .before .before .before in
-    stop-block b (c .before .read-head .result .refusal) (c .if2 .taken)
-    (head-refused (input b) (b .before .loop .start) (c .before .read-head .result) (c .before .read-head .ensures .0) (before b) (c .before .before .if1 .left) (c .if2 .taken))
-
--- src/lib.rt:63:22
+-- src/lib.rt:80:22
 add-at : tie.Need-add-at Inv-loop2 μ-loop2 Inv-loop μ-loop
 add-at c = omega (arith, c .before .read-head .ensures .1 .0 (c .if2 .left))
 
--- src/lib.rt:64:19
+-- src/lib.rt:81:19
 add-end : tie.Need-add-end Inv-loop2 μ-loop2 Inv-loop μ-loop
 add-end c = omega (arith, c .before .before .read-head .ensures .1 .0 (c .before .if2 .left))
 
--- src/lib.rt:65:13
+-- src/lib.rt:82:13
 slice-aggregate-s : tie.Need-slice-aggregate-s Inv-loop2 μ-loop2 Inv-loop μ-loop
 slice-aggregate-s c = sym (length-take-le _ _ (c .before .before .before .read-head .ensures .1 .0 (c .before .before .if2 .left)))
 
--- src/lib.rt:66:9
+-- src/lib.rt:83:9
 loop2-holds : tie.Need-loop2-holds Inv-loop2 μ-loop2 Inv-loop μ-loop
 unfolding sceneWith
 loop2-holds c =
@@ -300,174 +289,193 @@ loop2-holds c =
     let h = c .before .before .before .read-head in
     let w = h .ensures .1 .0 (c .before .before .if2 .left) in
     let n = length-take-le (b .before .loop .start + 16 + h .result .size) (input b) w in (
-      omega (arith, n, b .before .loop .inv .1),
-      b .before .loop .inv .3,
+      omega (arith, n, b .before .loop .inv .2),
+      b .before .loop .inv .4,
       told b ∙ run-opened (sceneOf (b .before .before .before .before .before .before .before .args .given)) (input b) (b .before .loop .blocks) (b .before .loop .messages) _ (before b) (b .before .loop .start) (more b .1)
-          (bytes b) (h .result .size) _ (c .before .before .before .before .if1 .left) (head-found (input b) (b .before .loop .start) (h .result) (h .ensures .0) (c .before .before .if2 .left)),
+          (bytes b) (omega (arith, w)) (h .result .size) _ (c .before .before .before .before .if1 .left) (head-found (input b) (b .before .loop .start) (h .result) (h .ensures .0) (c .before .before .if2 .left)),
     )
 
--- src/lib.rt:68:17
-returns-3 : tie.Need-returns-3 Inv-loop2 μ-loop2 Inv-loop μ-loop
-returns-3 c =
-    let m = c .before in
-    stop-message m 11
-    (ended-refused (body m) (m .before .loop2 .at) (m .loop2-test .taken) (m .before .loop2 .baselines) (m .before .loop2 .records) (m .before .loop2 .present) (m .before .loop2 .rest) (c .if3 .taken))
+-- src/lib.rt:85:17
+refused-in-requires : tie.Need-refused-in-requires Inv-loop2 μ-loop2 Inv-loop μ-loop
+refused-in-requires c κs = search needs
 
--- src/lib.rt:70:21
+-- src/lib.rt:85:17
+returns : tie.Need-returns Inv-loop2 μ-loop2 Inv-loop μ-loop
+returns c =
+    let m = c .before .before in
+    c .refused-in .ensures
+    ∙ stop-message m 11
+    (ended-refused (body m) (m .before .loop2 .at) (m .loop2-test .taken) (m .before .loop2 .baselines) (m .before .loop2 .records) (m .before .loop2 .present) (m .before .loop2 .rest) (c .before .if3 .taken))
+
+-- src/lib.rt:87:21
 shared-slice-read-k : tie.Need-shared-slice-read-k Inv-loop2 μ-loop2 Inv-loop μ-loop
 shared-slice-read-k c = search needs
 
--- src/lib.rt:71:34
+-- src/lib.rt:89:21
 add-t52 : tie.Need-add-t52 Inv-loop2 μ-loop2 Inv-loop μ-loop
 add-t52 c = omega (arith, c .before .before .loop2-test .taken, within (c .before .before), length-take-le (end (c .before .before)) (input (blockOf (c .before .before))) (within (c .before .before)))
 
--- src/lib.rt:90:50
+-- src/lib.rt:110:50
 context-requires : tie.Need-context-requires Inv-loop2 μ-loop2 Inv-loop μ-loop
 context-requires c κs = search needs
 
--- src/lib.rt:90:25
+-- src/lib.rt:110:25
 time-at-requires : tie.Need-time-at-requires Inv-loop2 μ-loop2 Inv-loop μ-loop
 time-at-requires c κs = search needs
 
--- src/lib.rt:94:25
-returns-4 : tie.Need-returns-4 Inv-loop2 μ-loop2 Inv-loop μ-loop
-returns-4 c = stop-parsed (c .before .before .before .before .before .before .before) (c .before .before .before .before .before .before .if3 .left) _ (c .before .before .time-at .result .cursor) (time-parsed (c .before .before)) (c .if4 .taken)
+-- src/lib.rt:114:25
+refused-in-requires-2 : tie.Need-refused-in-requires-2 Inv-loop2 μ-loop2 Inv-loop μ-loop
+refused-in-requires-2 c κs = search needs
 
--- src/lib.rt:102:25
+-- src/lib.rt:114:25
+returns-2 : tie.Need-returns-2 Inv-loop2 μ-loop2 Inv-loop μ-loop
+returns-2 c = c .refused-in2 .ensures ∙ stop-parsed (c .before .before .before .before .before .before .before .before) (c .before .before .before .before .before .before .before .if3 .left) _ (c .before .before .before .time-at .result .cursor) (time-parsed (c .before .before .before)) (c .before .if4 .taken)
+
+-- src/lib.rt:122:25
 clientdata-at-requires : tie.Need-clientdata-at-requires Inv-loop2 μ-loop2 Inv-loop μ-loop
 clientdata-at-requires c κs = search needs
 
--- src/lib.rt:106:25
-returns-5 : tie.Need-returns-5 Inv-loop2 μ-loop2 Inv-loop μ-loop
-returns-5 c = stop-parsed (c .before .before .before .before .before .before) (c .before .before .before .before .before .if3 .left) _ (c .before .before .clientdata-at .result .cursor) (client-parsed (c .before .before)) (c .if5 .taken)
+-- src/lib.rt:126:25
+refused-in-requires-3 : tie.Need-refused-in-requires-3 Inv-loop2 μ-loop2 Inv-loop μ-loop
+refused-in-requires-3 c κs = search needs
 
--- src/lib.rt:109:25
+-- src/lib.rt:126:25
+returns-3 : tie.Need-returns-3 Inv-loop2 μ-loop2 Inv-loop μ-loop
+returns-3 c = c .refused-in3 .ensures ∙ stop-parsed (c .before .before .before .before .before .before .before) (c .before .before .before .before .before .before .if3 .left) _ (c .before .before .before .clientdata-at .result .cursor) (client-parsed (c .before .before .before)) (c .before .if5 .taken)
+
+-- src/lib.rt:129:25
 fill-client-requires : tie.Need-fill-client-requires Inv-loop2 μ-loop2 Inv-loop μ-loop
 fill-client-requires c κs = search needs
 
--- src/lib.rt:110:21
+-- src/lib.rt:130:21
 with-client-requires : tie.Need-with-client-requires Inv-loop2 μ-loop2 Inv-loop μ-loop
 with-client-requires c κs = search needs
 
--- src/lib.rt:114:57
+-- src/lib.rt:134:57
 context-requires-2 : tie.Need-context-requires-2 Inv-loop2 μ-loop2 Inv-loop μ-loop
 context-requires-2 c κs = search needs
 
--- src/lib.rt:114:25
+-- src/lib.rt:134:25
 read-message-requires : tie.Need-read-message-requires Inv-loop2 μ-loop2 Inv-loop μ-loop
 read-message-requires c κs = search needs
 
--- src/lib.rt:118:25
-returns-6 : tie.Need-returns-6 Inv-loop2 μ-loop2 Inv-loop μ-loop
-returns-6 c =
-    let r = c .before .before in
+-- src/lib.rt:138:25
+refused-in-requires-4 : tie.Need-refused-in-requires-4 Inv-loop2 μ-loop2 Inv-loop μ-loop
+refused-in-requires-4 c κs = search needs
+
+-- src/lib.rt:138:25
+returns-4 : tie.Need-returns-4 Inv-loop2 μ-loop2 Inv-loop μ-loop
+returns-4 c = c .refused-in4 .ensures ∙ (let r = c .before .before .before in
     let m = r .before .before .before .before .before .before in
     let k = m .before .loop2 in
     stop-parsed m (r .before .before .before .before .before .if3 .left) _ (r .read-message .result .cursor)
     (other-parsed (body m) (k .at) (m .loop2-test .taken) (k .baselines) (k .records) (k .present) (k .rest) (r .before .before .before .before .before .if3 .left) (body-bytes m) _
-    (r .before .context2 .ensures _ _ _) (r .read-message .result .message) (r .read-message .result .cursor) (r .read-message .ensures)) (c .if7 .taken)
+    (r .before .context2 .ensures _ _ _) (r .read-message .result .message) (r .read-message .result .cursor) (r .read-message .ensures)) (c .before .if7 .taken))
 
--- src/lib.rt:122:43
+-- src/lib.rt:142:43
 enum-known-message : tie.Need-enum-known-message Inv-loop2 μ-loop2 Inv-loop μ-loop
 enum-known-message c = search needs
 
--- src/lib.rt:123:37
+-- src/lib.rt:143:37
 cast-i : tie.Need-cast-i Inv-loop2 μ-loop2 Inv-loop μ-loop
 cast-i c = search needs
 
--- src/lib.rt:125:29
+-- src/lib.rt:145:29
 mul-baselines : tie.Need-mul-baselines Inv-loop2 μ-loop2 Inv-loop μ-loop
 mul-baselines c = omega (arith, baseline-index (c .before .before))
 
--- src/lib.rt:125:29
+-- src/lib.rt:145:29
 array-set-from-baselines : tie.Need-array-set-from-baselines Inv-loop2 μ-loop2 Inv-loop μ-loop
 array-set-from-baselines c = baseline-index (c .before .before)
 
--- src/lib.rt:127:45
+-- src/lib.rt:147:45
 enum-known-message-2 : tie.Need-enum-known-message-2 Inv-loop2 μ-loop2 Inv-loop μ-loop
 enum-known-message-2 c = search needs
 
--- src/lib.rt:128:33
+-- src/lib.rt:148:33
 cleared-scene-requires : tie.Need-cleared-scene-requires Inv-loop2 μ-loop2 Inv-loop μ-loop
 cleared-scene-requires c κs = search needs
 
--- src/lib.rt:135:29
+-- src/lib.rt:155:29
 apply-rest-requires : tie.Need-apply-rest-requires Inv-loop2 μ-loop2 Inv-loop μ-loop
 unfolding sceneWith
 apply-rest-requires c κs = omega (arith, range→ (scene (c .before .before .before .before .before .before .before .before .before)) (c .before .before .before .before .before .before .before .before .before .before .loop2 .inv .1) .statics)
 
--- src/lib.rt:74:25
+-- src/lib.rt:94:25
 read-update-requires : tie.Need-read-update-requires Inv-loop2 μ-loop2 Inv-loop μ-loop
 read-update-requires c κs = search needs
 
--- src/lib.rt:78:25
-returns-7 : tie.Need-returns-7 Inv-loop2 μ-loop2 Inv-loop μ-loop
-returns-7 c =
-    let r = c .before .before in
+-- src/lib.rt:98:25
+refused-in-requires-5 : tie.Need-refused-in-requires-5 Inv-loop2 μ-loop2 Inv-loop μ-loop
+refused-in-requires-5 c κs = search needs
+
+-- src/lib.rt:98:25
+returns-5 : tie.Need-returns-5 Inv-loop2 μ-loop2 Inv-loop μ-loop
+returns-5 c = c .refused-in5 .ensures ∙ (let r = c .before .before .before in
     let m = r .before .before .before .before .before in
     let k = m .before .loop2 in
     stop-parsed m (r .before .before .before .before .if3 .left) _ (r .read-update .result .cursor)
     (update-parsed (body m) (k .at) (m .loop2-test .taken) (k .baselines) (k .records) (k .present) (k .rest) (r .before .before .before .before .if3 .left) (body-bytes m) _ refl (r .before .if6 .left)
-    (r .read-update .result .update) (r .read-update .result .cursor) (r .read-update .ensures)) (c .if8 .taken)
+    (r .read-update .result .update) (r .read-update .result .cursor) (r .read-update .ensures)) (c .before .if8 .taken))
 
--- src/lib.rt:82:29
+-- src/lib.rt:102:29
 cast-i-2 : tie.Need-cast-i-2 Inv-loop2 μ-loop2 Inv-loop μ-loop
 cast-i-2 c = search needs
 
--- src/lib.rt:83:29
+-- src/lib.rt:103:29
 mul-b : tie.Need-mul-b Inv-loop2 μ-loop2 Inv-loop μ-loop
 mul-b c = omega (arith, update-index (c .before .before .before))
 
--- src/lib.rt:83:29
+-- src/lib.rt:103:29
 array-copy-out-b : tie.Need-array-copy-out-b Inv-loop2 μ-loop2 Inv-loop μ-loop
 array-copy-out-b c = update-index (c .before .before .before)
 
--- src/lib.rt:84:25
+-- src/lib.rt:104:25
 fill-update-requires : tie.Need-fill-update-requires Inv-loop2 μ-loop2 Inv-loop μ-loop
 fill-update-requires c κs = search needs
 
--- src/lib.rt:85:21
+-- src/lib.rt:105:21
 mul-records : tie.Need-mul-records Inv-loop2 μ-loop2 Inv-loop μ-loop
 mul-records c = omega (arith, update-index (c .before .before .before .before .before))
 
--- src/lib.rt:85:21
+-- src/lib.rt:105:21
 array-set-from-records : tie.Need-array-set-from-records Inv-loop2 μ-loop2 Inv-loop μ-loop
 array-set-from-records c = update-index (c .before .before .before .before .before)
 
--- src/lib.rt:86:21
+-- src/lib.rt:106:21
 array-write-present : tie.Need-array-write-present Inv-loop2 μ-loop2 Inv-loop μ-loop
 array-write-present c = update-index (c .before .before .before .before .before)
 
--- src/lib.rt:141:13
+-- src/lib.rt:161:13
 add-messages : tie.Need-add-messages Inv-loop2 μ-loop2 Inv-loop μ-loop
 add-messages c = counts (c .before .before .before)
 
--- src/lib.rt:66:9
+-- src/lib.rt:83:9
 loop2-less : tie.Need-loop2-less Inv-loop2 μ-loop2 Inv-loop μ-loop
 loop2-less c =
     let m = c .before .before .before in
     moved-less (body m) (body-bytes m) (scene m) (m .before .loop2 .at) (next c) (c .match .at) (moved c)
 
--- src/lib.rt:66:9
+-- src/lib.rt:83:9
 loop2-again : tie.Need-loop2-again Inv-loop2 μ-loop2 Inv-loop μ-loop
 loop2-again c =
     let m = c .before .before .before in
     let k = m .before .loop2 in (
       omega (arith, k .inv .0, moved-less (body m) (body-bytes m) (scene m) (k .at) (next c) (c .match .at) (moved c)),
       moved-range (body m) (body-bytes m) (scene m) (k .at) (next c) (c .match .at) (moved c) (k .inv .1),
-      k .inv .2 ∙ on-moved (sceneOf (m .before .before .before .before .before .before .before .before .before .before .before .before .before .before .args .given)) (input (blockOf m)) (m .before .before .before .before .before .before .before .before .loop .blocks) _ (end m) (bytes (blockOf m)) (within m) (k .messages) (scene m) (k .at)
+      k .inv .2 ∙ on-moved (sceneOf (m .before .before .before .before .before .before .before .before .before .before .before .before .before .before .args .given)) (input (blockOf m)) (m .before .before .before .before .before .before .before .before .loop .blocks) _ (m .before .before .before .before .before .before .before .before .loop .start) (end m) (bytes (blockOf m)) (within m) (k .messages) (scene m) (k .at)
           (next c) (c .match .at) (m .loop2-test .taken) (moved c),
     )
 
--- src/lib.rt:144:9
+-- src/lib.rt:164:9
 add-blocks : tie.Need-add-blocks Inv-loop2 μ-loop2 Inv-loop μ-loop
 add-blocks c = omega (arith, more (c .before .before .before .before .before .before .before))
 
--- src/lib.rt:54:5
+-- src/lib.rt:70:5
 loop-less : tie.Need-loop-less Inv-loop2 μ-loop2 Inv-loop μ-loop
 loop-less c = omega (arith, more (c .before .before .before .before .before .before .before))
 
--- src/lib.rt:54:5
+-- src/lib.rt:70:5
 loop-again : tie.Need-loop-again Inv-loop2 μ-loop2 Inv-loop μ-loop
 loop-again c =
     let k = c .before .loop2 in
@@ -478,24 +486,38 @@ loop-again c =
     let to = b .before .loop .start + 16 + c .before .before .before .before .before .read-head .result .size in
     let t = held (k .baselines) (k .records) (k .present) (k .rest) in
     let n : b .before .before .before .before .before .before .before .args .most - b .before .loop .blocks - 1 ≡ b .before .before .before .before .before .before .before .args .most - (b .before .loop .blocks + 1) = omega arith in (
+      c .before .before .before .before .if2 .left,
       w,
       omega (arith, k .inv .0),
       omega (arith, more b),
       k .inv .1,
-      k .inv .2 ∙ on-end given d (b .before .loop .blocks) _ to (bytes b) w (k .messages) t (k .at) (c .loop2-test .left)
+      k .inv .2 ∙ on-end given d (b .before .loop .blocks) _ (b .before .loop .start) to (bytes b) w (k .messages) t (k .at) (c .loop2-test .left)
           ∙ ap (λ (j : ℕ). toldOf given (length d) (b .before .loop .blocks + 1) (k .messages) (runMost recordingBlocks j t (drop to d))) n,
     )
 
--- src/lib.rt:43:1
-returns-8 : tie.Need-returns-8 Inv-loop2 μ-loop2 Inv-loop μ-loop
-returns-8 c =
+-- src/lib.rt:58:1
+returns-6 : tie.Need-returns-6 Inv-loop2 μ-loop2 Inv-loop μ-loop
+returns-6 c =
     let a = c .before .before .before .before .before .before .before .args in
     let k = c .before .loop in
     let d = a .d .now in
     let t = held (k .baselines) (k .records) (k .present) (k .rest) in
-    sym (k .inv .4
-    ∙ run-done (sceneOf (a .given)) d (k .blocks) (k .messages) 0 t (k .start) (a .most - k .blocks) (k .inv .0)
-    (run-over (sceneOf (a .given)) d (k .blocks) (k .messages) 0 t (k .start) (a .most) (k .blocks) (c .loop-test .left)))
+    ap (λ (n : ℕ). record { scene = t; blocks = k .blocks; messages = k .messages; next = k .start; refusal = n; place = k .start }) (k .inv .0)
+    ∙ sym (k .inv .5
+    ∙ run-over (sceneOf (a .given)) d (k .blocks) (k .messages) 0 t (k .start) (a .most) (k .blocks) (k .inv .1) (c .loop-test .left))
+
+-- src/lib.rt:58:1
+returns-7 : tie.Need-returns-7 Inv-loop2 μ-loop2 Inv-loop μ-loop
+unfolding sceneWith
+returns-7 c = stop-block (c .before) 11 (block-ended (before (c .before)) (drop (c .before .before .loop .start) (input (c .before))) (c .if1 .taken))
+
+-- src/lib.rt:58:1
+returns-8 : tie.Need-returns-8 Inv-loop2 μ-loop2 Inv-loop μ-loop
+unfolding sceneWith
+returns-8 c =
+    let b = c .before .before .before in
+    stop-block b (c .before .read-head .result .refusal)
+    (head-refused (input b) (b .before .loop .start) (c .before .read-head .result) (c .before .read-head .ensures .0) (before b) (c .before .before .if1 .left) (c .if2 .taken))
 
 pub read-blocks-spec : {M : Type 1} → statement M
 read-blocks-spec =
@@ -506,26 +528,28 @@ read-blocks-spec =
     Inv-loop
     μ-loop
     loop-holds
-    returns
     read-head-requires
-    returns-2
     add-at
     add-end
     slice-aggregate-s
     loop2-holds
-    returns-3
+    refused-in-requires
+    returns
     shared-slice-read-k
     add-t52
     context-requires
     time-at-requires
-    returns-4
+    refused-in-requires-2
+    returns-2
     clientdata-at-requires
-    returns-5
+    refused-in-requires-3
+    returns-3
     fill-client-requires
     with-client-requires
     context-requires-2
     read-message-requires
-    returns-6
+    refused-in-requires-4
+    returns-4
     enum-known-message
     cast-i
     mul-baselines
@@ -534,7 +558,8 @@ read-blocks-spec =
     cleared-scene-requires
     apply-rest-requires
     read-update-requires
-    returns-7
+    refused-in-requires-5
+    returns-5
     cast-i-2
     mul-b
     array-copy-out-b
@@ -548,4 +573,6 @@ read-blocks-spec =
     add-blocks
     loop-less
     loop-again
+    returns-6
+    returns-7
     returns-8)

@@ -12,7 +12,7 @@ const LEAST: usize = 8_000_000;
 const MADE: usize = 16_000_000;
 
 extern "C" {
-    fn speed_x(bytes: *const u8, length: usize, entity: usize) -> i16;
+    fn speed_x(bytes: *const u8, length: usize, entity: u8) -> i16;
 }
 
 fn proved(bytes: &[u8]) {

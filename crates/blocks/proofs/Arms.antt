@@ -15,14 +15,15 @@ use lib.IntN.{pos}
 use lib.ListN.{length, drop, getD, set, replicate}
 use Rattle.dem.specs.Kind
 use Rattle.dem.specs.Limits.{entityCount}
-use Rattle.dem.specs.Bytes.{Bytes, refused}
-use Rattle.dem.specs.Layout.{Value, number, tail, put}
+use Rattle.dem.specs.Bytes.{Bytes, found, refused}
+use Rattle.dem.specs.Layout.{Value, number, Layout, parse, tail, put}
 use Rattle.dem.specs.Scene.{Scene, Context, contextOf, cleared, baselineAt}
-use Rattle.dem.specs.Message.{isMessage, isUpdate, kindLayout, layout, layoutIn, updateLayout, fillUpdate, fillClient, fill, apply}
+use Rattle.dem.specs.Message.{isMessage, isUpdate, numberRule, kindLayout, layout, layoutIn, updateLayout, fillUpdate, fillClient, fill, apply}
 use Rattle.dem.specs.Recording.{readMessage}
 use Rattle.dem.proofs.ResultLaws.{clash}
 use Rattle.dem.proofs.LayoutLaws.{Allowed}
-use Rattle.dem.proofs.MessageLaws.{kind-update, fill-client}
+use Rattle.dem.proofs.AtLaws.{one-at, parse-good}
+use Rattle.dem.proofs.MessageLaws.{kind-update, fill-update, fill-client}
 use Rattle.dem.proofs.UpdateLaws.{entity-known, UpdateRead, update-read}
 use Rattle.wire.specs.Cursors.{gotten, parseAt, placed}
 use Rattle.wire.specs.declared.Cursor.{Cursor}
@@ -47,8 +48,8 @@ use Rattle.scene.specs.declared.Rest.{Rest}
 use Rattle.scene.proofs.Changes.{set-seen, seen-at}
 use Rattle.effects.proofs.Tables.{update-applied, matched, Tableless, not-among, tables-kept, rest-joined}
 use Rattle.reader.proofs.Arms.{update-arm}
-use Rattle.reader.proofs.Numbers.{is-message}
-use Rattle.reader.proofs.Readings.{read-allowed, read-number, read-numbered, kind-read, message-ended, message-found, message-refused}
+use Rattle.reader.proofs.Numbers.{is-message, rule-good}
+use Rattle.reader.proofs.Readings.{read-allowed, read-number, read-numbered, kind-read, message-parsed, message-ended, message-found, message-refused}
 use Rattle.blocks.proofs.Turns.{Moved}
 
 -- The scene of these parts.
@@ -137,6 +138,27 @@ module _ (s : List ℕ) (at : ℕ) (l : at < length s) (b : List Baseline) (e : 
             parsed-moved (updateValues u) c update-parsed z _
             (sym (ap (λ (l : List (List ℕ)). withTables (t .baselines) l (set (t .present) i true) t) (set-seen recordNumbers e i r _ refl)
             ∙ update-applied t u r (baselineNumbers (getD b i noBaseline)) (leb-true 128 (u .number) numbered) (seen-at baselineNumbers b i noBaseline) f))
+
+    -- An update by its values as sent, its record being filled in already.
+    pub quick-moved : (n : ℕ) → n ≡ getD s at 0 → 128 ≤ n → (high i : ℕ) (sent : List Value) (to : ℕ) (r : Record)
+        → parse (updateLayout n) (drop (at + 1) s) ≡ found (number high ∷ number i ∷ sent) (drop to s)
+        → fillUpdate (baselineNumbers (getD b i noBaseline)) n (number high ∷ number i ∷ sent) ≡ number Kind.update ∷ number i ∷ recordValues r
+        → Moved s (held b e p x) at (held b (set e i r) (set p i true) x) to
+    unfolding sceneWith apply layout
+    quick-moved n en large high i sent to r q f =
+        let t = held b e p x in
+        let us : List Value = number high ∷ number i ∷ sent in
+        let message : isMessage n ≡ true = is-message n (λ z. omega arith) (λ z. omega arith) (λ y z. omega arith) in
+        record {
+          values = number n ∷ us;
+          read = message-parsed t s at going (number n ∷ us) (drop to s)
+              (parse-good 1 (numberRule (contextOf t)) (kindLayout (contextOf t)) at s n (omega arith) (one-at at s l ∙ sym en) (rule-good (contextOf t) n message (λ z. omega arith))
+              ∙ ap (λ (y : Layout). put (number n) (parse y (drop (at + 1) s))) (kind-update (contextOf t) n (le-leb 128 n large))
+              ∙ ap (put (number n)) q);
+          scene = ap (apply t) (fill-update t n us (le-leb 128 n large)
+              ∙ ap (λ (y : List ℕ). fillUpdate y n us) (sym (seen-at baselineNumbers b i noBaseline)) ∙ f)
+              ∙ sym (ap (λ (l : List (List ℕ)). withTables (t .baselines) l (set (t .present) i true) t) (set-seen recordNumbers e i r _ refl));
+        }
 
     -- ---- a time, and clientdata
 

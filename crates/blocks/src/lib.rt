@@ -54,6 +54,9 @@ fn refused_in(given: Scene, blocks: usize, next: usize, refusal: u8, place: usiz
     }
 }
 
+// The bytes of the longest update.
+const UPDATE_SIZE: usize = 18;
+
 // The blocks from a place to the end, but at most so many. No copy of the scene is made for a block or a message: its parts are locals.
 pub fn read_blocks(d: &[u8], from: usize, most: usize, given: Scene) -> BlocksAt
     requires { ⌜ (from ≤ length (now d)) × (inRange (sceneOf given) ≡ true) ⌝ }
@@ -91,6 +94,24 @@ pub fn read_blocks(d: &[u8], from: usize, most: usize, given: Scene) -> BlocksAt
             };
             match k {
                 128..=255 => {
+                    if UPDATE_SIZE <= d.len() - at {
+                        let q = quick::update_head(d, at + 1, k);
+                        let i = q.entity;
+                        let mask = q.mask;
+                        if (i < 449) & (mask < 32768) {
+                            let b = baselines[i];
+                            let f = quick::update_fields(d, q.next, mask, b);
+                            let to = f.next;
+                            if to <= end {
+                                let record = f.record;
+                                records[i] = record;
+                                present[i] = true;
+                                at = to;
+                                messages += 1;
+                                continue;
+                            }
+                        }
+                    }
                     let u = masked::read_update(s, c, k);
                     let next = u.cursor;
                     let wrong = next.refusal;

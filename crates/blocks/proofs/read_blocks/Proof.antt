@@ -36,9 +36,10 @@ use Rattle.scene.specs.Views.{sceneWith, sceneOf}
 use Rattle.scene.specs.declared.Baseline.{Baseline}
 use Rattle.scene.specs.declared.Record.{Record}
 use Rattle.scene.specs.declared.Rest.{Rest}
+use Rattle.quick.proofs.QuickLaws.{QuickUpdate, quick-update}
 use Rattle.blocks.specs.Runs.{refusedIn, toldOf}
 use Rattle.blocks.proofs.Turns.{Moved, head-refused, head-found, moved-less, moved-range, inside, on-refused, on-moved, on-end, run-over, run-refused, run-opened}
-use Rattle.blocks.proofs.Arms.{held, timed, ended-refused, kind-parsed, parsed-refused, update-parsed, update-known, update-moved, time-moved, client-moved, other-parsed, baseline-known, baseline-moved, serverinfo-moved, rest-moved}
+use Rattle.blocks.proofs.Arms.{held, noBaseline, quick-moved, timed, ended-refused, kind-parsed, parsed-refused, update-parsed, update-known, update-moved, time-moved, client-moved, other-parsed, baseline-known, baseline-moved, serverinfo-moved, rest-moved}
 use Rattle.blocks.proofs.read_blocks.Statement.{statement}
 use Rattle.blocks.proofs.read_blocks.Tie as tie
 use Rattle.blocks.proofs.read_blocks.Reads as reads
@@ -55,6 +56,8 @@ use Rattle.scene.proofs.cleared_scene.Reads as cleared-scene-reads
 use Rattle.scene.proofs.fill_client.Reads as fill-client-reads
 use Rattle.scene.proofs.fill_update.Reads as fill-update-reads
 use Rattle.scene.proofs.with_client.Reads as with-client-reads
+use Rattle.quick.proofs.update_fields.Reads as update-fields-reads
+use Rattle.quick.proofs.update_head.Reads as update-head-reads
 
 abbrev Inv-loop2 : tie.InvT-loop2
 Inv-loop2 d from most given baselines₀ records₀ present₀ rest₀ start blocks messages₀ refusal at₀ end s baselines records present rest messages′ at =
@@ -189,13 +192,13 @@ baseline-index c =
     (r .before .context2 .ensures _ _ _) (r .read-message .result .message) (r .read-message .result .cursor) (r .read-message .ensures) (c .before .before .if7 .left) _ _ _
     (c .message .given .1)
 
-update-index : (c : tie.Else8 Inv-loop2 μ-loop2 Inv-loop μ-loop) → c .before .before .read-update .result .update .entity .0 < 449
+update-index : (c : tie.Else11 Inv-loop2 μ-loop2 Inv-loop μ-loop) → c .before .before .read-update .result .update .entity .0 < 449
 update-index c =
     let r = c .before .before in
-    let m = r .before .before .before .before .before in
+    let m = r .before .before .before .before .before .before in
     let k = m .before .loop2 in
-    update-known (body m) (k .at) (m .loop2-test .taken) (k .baselines) (k .records) (k .present) (k .rest) (r .before .before .before .before .if3 .left) (body-bytes m) _ refl (r .before .if6 .left)
-    (r .read-update .result .update) (r .read-update .result .cursor) (r .read-update .ensures) (c .if8 .left)
+    update-known (body m) (k .at) (m .loop2-test .taken) (k .baselines) (k .records) (k .present) (k .rest) (r .before .before .before .before .before .if3 .left) (body-bytes m) _ refl (r .before .before .if6 .left)
+    (r .read-update .result .update) (r .read-update .result .cursor) (r .read-update .ensures) (c .if11 .left)
 
 counts : (c : AtMessage) → Fits w64 (c .before .loop2 .messages + 1)
 counts c = omega (arith, c .before .loop2 .inv .0, c .loop2-test .taken, within c, length-take-le (end c) (input (blockOf c)) (within c))
@@ -247,12 +250,43 @@ moved c =
     (λ w. arrived c (k .baselines) (k .records) (k .present) (w .7 .result) (w .3 .result .cursor .at) (w .8) (w .9) (w .10) (w .11) (w .12)
     (rest-moved (body m) (k .at) l (k .baselines) (k .records) (k .present) (k .rest) g h _ (w .2 .ensures _ _ _) (w .3 .result .message) (w .3 .result .cursor)
     (w .3 .ensures) (w .5 .left) neither (w .6 .keys3) tt tt (λ z. w .0 .rest .0 .1 (sym z)) (w .1 .taken) (w .7 .result) (w .7 .ensures)))
-    (λ w. arrived c (k .baselines) (set (k .records) (w .2 .result .update .entity .0) (w .9 .result)) (set (k .present) (w .2 .result .update .entity .0) true) (k .rest) (w .2 .result .cursor .at) (w .10) (w .11) (w .12) (w .13) (w .14)
-    (update-moved (body m) (k .at) l (k .baselines) (k .records) (k .present) (k .rest) g h _ refl (w .1 .left) (w .2 .result .update) (w .2 .result .cursor)
-    (w .2 .ensures) (w .4 .left) (w .9 .result) (w .9 .ensures)))))))
+    (λ w. arrived c (k .baselines) (set (k .records) (w .3 .result .update .entity .0) (w .10 .result)) (set (k .present) (w .3 .result .update .entity .0) true) (k .rest) (w .3 .result .cursor .at) (w .11) (w .12) (w .13) (w .14) (w .15)
+    (update-moved (body m) (k .at) l (k .baselines) (k .records) (k .present) (k .rest) g h _ refl (w .1 .left) (w .3 .result .update) (w .3 .result .cursor)
+    (w .3 .ensures) (w .5 .left) (w .10 .result) (w .10 .ensures)))))))
     (c .match .came)
 
--- src/lib.rt:70:5
+-- ---- an update that is read at once
+
+here-inside : (c : AtMessage) → c .before .loop2 .at < length (input (blockOf c))
+here-inside c = omega (arith, c .loop2-test .taken, within c, length-take-le (end c) (input (blockOf c)) (within c))
+
+known : (c : tie.Then9 Inv-loop2 μ-loop2 Inv-loop μ-loop)
+    → (c .before .update-head .result .entity < 449) × (c .before .update-head .result .mask < 32768)
+known c =
+    let t = and-true (ltb (c .before .update-head .result .entity) 449) (ltb (c .before .update-head .result .mask) 32768) (c .if9 .taken) in
+    (ltb-true _ _ (t .0), ltb-true _ _ (t .1))
+
+at-once : (c : tie.After-record Inv-loop2 μ-loop2 Inv-loop μ-loop)
+    → let m = c .before .before .before .before .before .before .before .before .before .before .before in
+    let k = m .before .loop2 in
+    let i = c .before .before .before .before .before .update-head .result .entity in
+    Moved (body m) (scene m) (k .at)
+    (held (k .baselines) (set (k .records) i (c .before .before .update-fields .result .record)) (set (k .present) i true) (k .rest))
+    (c .before .before .update-fields .result .next)
+at-once c =
+    let m = c .before .before .before .before .before .before .before .before .before .before .before in
+    let k = m .before .loop2 in
+    let n = getD (body m) (k .at) 0 in
+    let h = c .before .before .before .before .before .update-head in
+    let f = c .before .before .update-fields in
+    let i = h .result .entity in
+    let b = getD (k .baselines) i noBaseline in
+    let q : QuickUpdate (input (blockOf m)) (end m) (k .at + 1) n b (h .result) (f .result) =
+    quick-update (input (blockOf m)) (end m) (k .at + 1) n b (within m) (c .before .before .before .before .before .before .before .before .before .shared-slice-known2 .given (k .at) .fits) (h .result) (f .result) (h .ensures .0) (f .ensures .0) (f .ensures .1) (known (c .before .before .before .before) .1) (known (c .before .before .before .before) .0) (c .before .if10 .taken) in
+    quick-moved (body m) (k .at) (m .loop2-test .taken) (k .baselines) (k .records) (k .present) (k .rest) (c .before .before .before .before .before .before .before .before .before .before .if3 .left) n refl (c .before .before .before .before .before .before .before .if6 .left)
+    (q .high) i (q .sent) (f .result .next) (f .result .record) (q .parsed) (q .filled)
+
+-- src/lib.rt:73:5
 loop-holds : tie.Need-loop-holds Inv-loop2 μ-loop2 Inv-loop μ-loop
 loop-holds c =
     let a = c .before .before .before .before .before .args in
@@ -265,23 +299,23 @@ loop-holds c =
       ap (λ (k : ℕ). toldOf (sceneOf (a .given)) (length (a .d .now)) 0 0 (runMost recordingBlocks k (sceneOf (a .given)) (drop (a .from) (a .d .now)))) n,
     )
 
--- src/lib.rt:75:13
+-- src/lib.rt:78:13
 read-head-requires : tie.Need-read-head-requires Inv-loop2 μ-loop2 Inv-loop μ-loop
 read-head-requires c κs = search needs
 
--- src/lib.rt:80:22
+-- src/lib.rt:83:22
 add-at : tie.Need-add-at Inv-loop2 μ-loop2 Inv-loop μ-loop
 add-at c = omega (arith, c .before .read-head .ensures .1 .0 (c .if2 .left))
 
--- src/lib.rt:81:19
+-- src/lib.rt:84:19
 add-end : tie.Need-add-end Inv-loop2 μ-loop2 Inv-loop μ-loop
 add-end c = omega (arith, c .before .before .read-head .ensures .1 .0 (c .before .if2 .left))
 
--- src/lib.rt:82:13
+-- src/lib.rt:85:13
 slice-aggregate-s : tie.Need-slice-aggregate-s Inv-loop2 μ-loop2 Inv-loop μ-loop
 slice-aggregate-s c = sym (length-take-le _ _ (c .before .before .before .read-head .ensures .1 .0 (c .before .before .if2 .left)))
 
--- src/lib.rt:83:9
+-- src/lib.rt:86:9
 loop2-holds : tie.Need-loop2-holds Inv-loop2 μ-loop2 Inv-loop μ-loop
 unfolding sceneWith
 loop2-holds c =
@@ -295,11 +329,11 @@ loop2-holds c =
           (bytes b) (omega (arith, w)) (h .result .size) _ (c .before .before .before .before .if1 .left) (head-found (input b) (b .before .loop .start) (h .result) (h .ensures .0) (c .before .before .if2 .left)),
     )
 
--- src/lib.rt:85:17
+-- src/lib.rt:88:17
 refused-in-requires : tie.Need-refused-in-requires Inv-loop2 μ-loop2 Inv-loop μ-loop
 refused-in-requires c κs = search needs
 
--- src/lib.rt:85:17
+-- src/lib.rt:88:17
 returns : tie.Need-returns Inv-loop2 μ-loop2 Inv-loop μ-loop
 returns c =
     let m = c .before .before in
@@ -307,63 +341,63 @@ returns c =
     ∙ stop-message m 11
     (ended-refused (body m) (m .before .loop2 .at) (m .loop2-test .taken) (m .before .loop2 .baselines) (m .before .loop2 .records) (m .before .loop2 .present) (m .before .loop2 .rest) (c .before .if3 .taken))
 
--- src/lib.rt:87:21
+-- src/lib.rt:90:21
 shared-slice-read-k : tie.Need-shared-slice-read-k Inv-loop2 μ-loop2 Inv-loop μ-loop
 shared-slice-read-k c = search needs
 
--- src/lib.rt:89:21
-add-t52 : tie.Need-add-t52 Inv-loop2 μ-loop2 Inv-loop μ-loop
-add-t52 c = omega (arith, c .before .before .loop2-test .taken, within (c .before .before), length-take-le (end (c .before .before)) (input (blockOf (c .before .before))) (within (c .before .before)))
+-- src/lib.rt:92:21
+add-t59 : tie.Need-add-t59 Inv-loop2 μ-loop2 Inv-loop μ-loop
+add-t59 c = omega (arith, c .before .before .loop2-test .taken, within (c .before .before), length-take-le (end (c .before .before)) (input (blockOf (c .before .before))) (within (c .before .before)))
 
--- src/lib.rt:110:50
+-- src/lib.rt:131:50
 context-requires : tie.Need-context-requires Inv-loop2 μ-loop2 Inv-loop μ-loop
 context-requires c κs = search needs
 
--- src/lib.rt:110:25
+-- src/lib.rt:131:25
 time-at-requires : tie.Need-time-at-requires Inv-loop2 μ-loop2 Inv-loop μ-loop
 time-at-requires c κs = search needs
 
--- src/lib.rt:114:25
+-- src/lib.rt:135:25
 refused-in-requires-2 : tie.Need-refused-in-requires-2 Inv-loop2 μ-loop2 Inv-loop μ-loop
 refused-in-requires-2 c κs = search needs
 
--- src/lib.rt:114:25
+-- src/lib.rt:135:25
 returns-2 : tie.Need-returns-2 Inv-loop2 μ-loop2 Inv-loop μ-loop
 returns-2 c = c .refused-in2 .ensures ∙ stop-parsed (c .before .before .before .before .before .before .before .before) (c .before .before .before .before .before .before .before .if3 .left) _ (c .before .before .before .time-at .result .cursor) (time-parsed (c .before .before .before)) (c .before .if4 .taken)
 
--- src/lib.rt:122:25
+-- src/lib.rt:143:25
 clientdata-at-requires : tie.Need-clientdata-at-requires Inv-loop2 μ-loop2 Inv-loop μ-loop
 clientdata-at-requires c κs = search needs
 
--- src/lib.rt:126:25
+-- src/lib.rt:147:25
 refused-in-requires-3 : tie.Need-refused-in-requires-3 Inv-loop2 μ-loop2 Inv-loop μ-loop
 refused-in-requires-3 c κs = search needs
 
--- src/lib.rt:126:25
+-- src/lib.rt:147:25
 returns-3 : tie.Need-returns-3 Inv-loop2 μ-loop2 Inv-loop μ-loop
 returns-3 c = c .refused-in3 .ensures ∙ stop-parsed (c .before .before .before .before .before .before .before) (c .before .before .before .before .before .before .if3 .left) _ (c .before .before .before .clientdata-at .result .cursor) (client-parsed (c .before .before .before)) (c .before .if5 .taken)
 
--- src/lib.rt:129:25
+-- src/lib.rt:150:25
 fill-client-requires : tie.Need-fill-client-requires Inv-loop2 μ-loop2 Inv-loop μ-loop
 fill-client-requires c κs = search needs
 
--- src/lib.rt:130:21
+-- src/lib.rt:151:21
 with-client-requires : tie.Need-with-client-requires Inv-loop2 μ-loop2 Inv-loop μ-loop
 with-client-requires c κs = search needs
 
--- src/lib.rt:134:57
+-- src/lib.rt:155:57
 context-requires-2 : tie.Need-context-requires-2 Inv-loop2 μ-loop2 Inv-loop μ-loop
 context-requires-2 c κs = search needs
 
--- src/lib.rt:134:25
+-- src/lib.rt:155:25
 read-message-requires : tie.Need-read-message-requires Inv-loop2 μ-loop2 Inv-loop μ-loop
 read-message-requires c κs = search needs
 
--- src/lib.rt:138:25
+-- src/lib.rt:159:25
 refused-in-requires-4 : tie.Need-refused-in-requires-4 Inv-loop2 μ-loop2 Inv-loop μ-loop
 refused-in-requires-4 c κs = search needs
 
--- src/lib.rt:138:25
+-- src/lib.rt:159:25
 returns-4 : tie.Need-returns-4 Inv-loop2 μ-loop2 Inv-loop μ-loop
 returns-4 c = c .refused-in4 .ensures ∙ (let r = c .before .before .before in
     let m = r .before .before .before .before .before .before in
@@ -372,93 +406,153 @@ returns-4 c = c .refused-in4 .ensures ∙ (let r = c .before .before .before in
     (other-parsed (body m) (k .at) (m .loop2-test .taken) (k .baselines) (k .records) (k .present) (k .rest) (r .before .before .before .before .before .if3 .left) (body-bytes m) _
     (r .before .context2 .ensures _ _ _) (r .read-message .result .message) (r .read-message .result .cursor) (r .read-message .ensures)) (c .before .if7 .taken))
 
--- src/lib.rt:142:43
+-- src/lib.rt:163:43
 enum-known-message : tie.Need-enum-known-message Inv-loop2 μ-loop2 Inv-loop μ-loop
 enum-known-message c = search needs
 
--- src/lib.rt:143:37
+-- src/lib.rt:164:37
 cast-i : tie.Need-cast-i Inv-loop2 μ-loop2 Inv-loop μ-loop
 cast-i c = search needs
 
--- src/lib.rt:145:29
+-- src/lib.rt:166:29
 mul-baselines : tie.Need-mul-baselines Inv-loop2 μ-loop2 Inv-loop μ-loop
 mul-baselines c = omega (arith, baseline-index (c .before .before))
 
--- src/lib.rt:145:29
+-- src/lib.rt:166:29
 array-set-from-baselines : tie.Need-array-set-from-baselines Inv-loop2 μ-loop2 Inv-loop μ-loop
 array-set-from-baselines c = baseline-index (c .before .before)
 
--- src/lib.rt:147:45
+-- src/lib.rt:168:45
 enum-known-message-2 : tie.Need-enum-known-message-2 Inv-loop2 μ-loop2 Inv-loop μ-loop
 enum-known-message-2 c = search needs
 
--- src/lib.rt:148:33
+-- src/lib.rt:169:33
 cleared-scene-requires : tie.Need-cleared-scene-requires Inv-loop2 μ-loop2 Inv-loop μ-loop
 cleared-scene-requires c κs = search needs
 
--- src/lib.rt:155:29
+-- src/lib.rt:176:29
 apply-rest-requires : tie.Need-apply-rest-requires Inv-loop2 μ-loop2 Inv-loop μ-loop
 unfolding sceneWith
 apply-rest-requires c κs = omega (arith, range→ (scene (c .before .before .before .before .before .before .before .before .before)) (c .before .before .before .before .before .before .before .before .before .before .loop2 .inv .1) .statics)
 
--- src/lib.rt:94:25
+-- src/lib.rt:97:39
+sub-if8 : tie.Need-sub-if8 Inv-loop2 μ-loop2 Inv-loop μ-loop
+sub-if8 c = omega (arith, here-inside (c .before .before .before .before))
+
+-- src/lib.rt:98:55
+add-update-head : tie.Need-add-update-head Inv-loop2 μ-loop2 Inv-loop μ-loop
+add-update-head c = omega (arith, here-inside (c .before .before .before .before .before))
+
+-- src/lib.rt:98:29
+update-head-requires : tie.Need-update-head-requires Inv-loop2 μ-loop2 Inv-loop μ-loop
+update-head-requires c κs = omega (arith, c .if8 .taken)
+
+-- src/lib.rt:102:37
+mul-b : tie.Need-mul-b Inv-loop2 μ-loop2 Inv-loop μ-loop
+mul-b c = omega (arith, known c .0)
+
+-- src/lib.rt:102:37
+array-copy-out-b : tie.Need-array-copy-out-b Inv-loop2 μ-loop2 Inv-loop μ-loop
+array-copy-out-b c = known c .0
+
+-- src/lib.rt:103:33
+update-fields-requires : tie.Need-update-fields-requires Inv-loop2 μ-loop2 Inv-loop μ-loop
+update-fields-requires c κs = omega (arith, c .before .before .update-head .ensures .1, c .before .before .before .if8 .taken)
+
+-- src/lib.rt:107:33
+mul-records : tie.Need-mul-records Inv-loop2 μ-loop2 Inv-loop μ-loop
+mul-records c = omega (arith, known (c .before .before .before .before) .0)
+
+-- src/lib.rt:107:33
+array-set-from-records : tie.Need-array-set-from-records Inv-loop2 μ-loop2 Inv-loop μ-loop
+array-set-from-records c = known (c .before .before .before .before) .0
+
+-- src/lib.rt:108:33
+array-write-present : tie.Need-array-write-present Inv-loop2 μ-loop2 Inv-loop μ-loop
+array-write-present c = known (c .before .before .before .before) .0
+
+-- src/lib.rt:110:33
+add-messages : tie.Need-add-messages Inv-loop2 μ-loop2 Inv-loop μ-loop
+add-messages c = counts (c .before .before .before .before .before .before .before .before .before .before .before)
+
+-- src/lib.rt:86:9
+loop2-less : tie.Need-loop2-less Inv-loop2 μ-loop2 Inv-loop μ-loop
+loop2-less c =
+    let m = c .before .before .before .before .before .before .before .before .before .before .before in
+    moved-less (body m) (body-bytes m) (scene m) (m .before .loop2 .at) _ (c .before .before .update-fields .result .next) (at-once c)
+
+-- src/lib.rt:86:9
+loop2-again : tie.Need-loop2-again Inv-loop2 μ-loop2 Inv-loop μ-loop
+loop2-again c =
+    let m = c .before .before .before .before .before .before .before .before .before .before .before in
+    let k = m .before .loop2 in
+    let to = c .before .before .update-fields .result .next in (
+      omega (arith, k .inv .0, moved-less (body m) (body-bytes m) (scene m) (k .at) _ to (at-once c)),
+      moved-range (body m) (body-bytes m) (scene m) (k .at) _ to (at-once c) (k .inv .1),
+      k .inv .2 ∙ on-moved (sceneOf (m .before .before .before .before .before .before .before .before .before .before .before .before .before .before .args .given)) (input (blockOf m)) (m .before .before .before .before .before .before .before .before .loop .blocks) _ (m .before .before .before .before .before .before .before .before .loop .start) (end m) (bytes (blockOf m)) (within m) (k .messages) (scene m) (k .at)
+          _ to (m .loop2-test .taken) (at-once c),
+    )
+
+-- src/lib.rt:115:25
 read-update-requires : tie.Need-read-update-requires Inv-loop2 μ-loop2 Inv-loop μ-loop
 read-update-requires c κs = search needs
 
--- src/lib.rt:98:25
+-- src/lib.rt:119:25
 refused-in-requires-5 : tie.Need-refused-in-requires-5 Inv-loop2 μ-loop2 Inv-loop μ-loop
 refused-in-requires-5 c κs = search needs
 
--- src/lib.rt:98:25
+-- src/lib.rt:119:25
 returns-5 : tie.Need-returns-5 Inv-loop2 μ-loop2 Inv-loop μ-loop
-returns-5 c = c .refused-in5 .ensures ∙ (let r = c .before .before .before in
-    let m = r .before .before .before .before .before in
+returns-5 c =
+    let r = c .before .before .before in
+    let m = r .before .before .before .before .before .before in
     let k = m .before .loop2 in
-    stop-parsed m (r .before .before .before .before .if3 .left) _ (r .read-update .result .cursor)
-    (update-parsed (body m) (k .at) (m .loop2-test .taken) (k .baselines) (k .records) (k .present) (k .rest) (r .before .before .before .before .if3 .left) (body-bytes m) _ refl (r .before .if6 .left)
-    (r .read-update .result .update) (r .read-update .result .cursor) (r .read-update .ensures)) (c .before .if8 .taken))
+    c .refused-in5 .ensures
+    ∙ stop-parsed m (r .before .before .before .before .before .if3 .left) _ (r .read-update .result .cursor)
+    (update-parsed (body m) (k .at) (m .loop2-test .taken) (k .baselines) (k .records) (k .present) (k .rest) (r .before .before .before .before .before .if3 .left) (body-bytes m) _ refl (r .before .before .if6 .left)
+    (r .read-update .result .update) (r .read-update .result .cursor) (r .read-update .ensures)) (c .before .if11 .taken)
 
--- src/lib.rt:102:29
+-- src/lib.rt:123:29
 cast-i-2 : tie.Need-cast-i-2 Inv-loop2 μ-loop2 Inv-loop μ-loop
 cast-i-2 c = search needs
 
--- src/lib.rt:103:29
-mul-b : tie.Need-mul-b Inv-loop2 μ-loop2 Inv-loop μ-loop
-mul-b c = omega (arith, update-index (c .before .before .before))
+-- src/lib.rt:124:29
+mul-b-2 : tie.Need-mul-b-2 Inv-loop2 μ-loop2 Inv-loop μ-loop
+mul-b-2 c = omega (arith, update-index (c .before .before .before))
 
--- src/lib.rt:103:29
-array-copy-out-b : tie.Need-array-copy-out-b Inv-loop2 μ-loop2 Inv-loop μ-loop
-array-copy-out-b c = update-index (c .before .before .before)
+-- src/lib.rt:124:29
+array-copy-out-b-2 : tie.Need-array-copy-out-b-2 Inv-loop2 μ-loop2 Inv-loop μ-loop
+array-copy-out-b-2 c = update-index (c .before .before .before)
 
--- src/lib.rt:104:25
+-- src/lib.rt:125:25
 fill-update-requires : tie.Need-fill-update-requires Inv-loop2 μ-loop2 Inv-loop μ-loop
 fill-update-requires c κs = search needs
 
--- src/lib.rt:105:21
-mul-records : tie.Need-mul-records Inv-loop2 μ-loop2 Inv-loop μ-loop
-mul-records c = omega (arith, update-index (c .before .before .before .before .before))
+-- src/lib.rt:126:21
+mul-records-2 : tie.Need-mul-records-2 Inv-loop2 μ-loop2 Inv-loop μ-loop
+mul-records-2 c = omega (arith, update-index (c .before .before .before .before .before))
 
--- src/lib.rt:105:21
-array-set-from-records : tie.Need-array-set-from-records Inv-loop2 μ-loop2 Inv-loop μ-loop
-array-set-from-records c = update-index (c .before .before .before .before .before)
+-- src/lib.rt:126:21
+array-set-from-records-2 : tie.Need-array-set-from-records-2 Inv-loop2 μ-loop2 Inv-loop μ-loop
+array-set-from-records-2 c = update-index (c .before .before .before .before .before)
 
--- src/lib.rt:106:21
-array-write-present : tie.Need-array-write-present Inv-loop2 μ-loop2 Inv-loop μ-loop
-array-write-present c = update-index (c .before .before .before .before .before)
+-- src/lib.rt:127:21
+array-write-present-2 : tie.Need-array-write-present-2 Inv-loop2 μ-loop2 Inv-loop μ-loop
+array-write-present-2 c = update-index (c .before .before .before .before .before)
 
--- src/lib.rt:161:13
-add-messages : tie.Need-add-messages Inv-loop2 μ-loop2 Inv-loop μ-loop
-add-messages c = counts (c .before .before .before)
+-- src/lib.rt:182:13
+add-messages-2 : tie.Need-add-messages-2 Inv-loop2 μ-loop2 Inv-loop μ-loop
+add-messages-2 c = counts (c .before .before .before)
 
--- src/lib.rt:83:9
-loop2-less : tie.Need-loop2-less Inv-loop2 μ-loop2 Inv-loop μ-loop
-loop2-less c =
+-- src/lib.rt:86:9
+loop2-less-2 : tie.Need-loop2-less-2 Inv-loop2 μ-loop2 Inv-loop μ-loop
+loop2-less-2 c =
     let m = c .before .before .before in
     moved-less (body m) (body-bytes m) (scene m) (m .before .loop2 .at) (next c) (c .match .at) (moved c)
 
--- src/lib.rt:83:9
-loop2-again : tie.Need-loop2-again Inv-loop2 μ-loop2 Inv-loop μ-loop
-loop2-again c =
+-- src/lib.rt:86:9
+loop2-again-2 : tie.Need-loop2-again-2 Inv-loop2 μ-loop2 Inv-loop μ-loop
+loop2-again-2 c =
     let m = c .before .before .before in
     let k = m .before .loop2 in (
       omega (arith, k .inv .0, moved-less (body m) (body-bytes m) (scene m) (k .at) (next c) (c .match .at) (moved c)),
@@ -467,15 +561,15 @@ loop2-again c =
           (next c) (c .match .at) (m .loop2-test .taken) (moved c),
     )
 
--- src/lib.rt:164:9
+-- src/lib.rt:185:9
 add-blocks : tie.Need-add-blocks Inv-loop2 μ-loop2 Inv-loop μ-loop
 add-blocks c = omega (arith, more (c .before .before .before .before .before .before .before))
 
--- src/lib.rt:70:5
+-- src/lib.rt:73:5
 loop-less : tie.Need-loop-less Inv-loop2 μ-loop2 Inv-loop μ-loop
 loop-less c = omega (arith, more (c .before .before .before .before .before .before .before))
 
--- src/lib.rt:70:5
+-- src/lib.rt:73:5
 loop-again : tie.Need-loop-again Inv-loop2 μ-loop2 Inv-loop μ-loop
 loop-again c =
     let k = c .before .loop2 in
@@ -495,7 +589,7 @@ loop-again c =
           ∙ ap (λ (j : ℕ). toldOf given (length d) (b .before .loop .blocks + 1) (k .messages) (runMost recordingBlocks j t (drop to d))) n,
     )
 
--- src/lib.rt:58:1
+-- src/lib.rt:61:1
 returns-6 : tie.Need-returns-6 Inv-loop2 μ-loop2 Inv-loop μ-loop
 returns-6 c =
     let a = c .before .before .before .before .before .before .before .args in
@@ -506,12 +600,12 @@ returns-6 c =
     ∙ sym (k .inv .5
     ∙ run-over (sceneOf (a .given)) d (k .blocks) (k .messages) 0 t (k .start) (a .most) (k .blocks) (k .inv .1) (c .loop-test .left))
 
--- src/lib.rt:58:1
+-- src/lib.rt:61:1
 returns-7 : tie.Need-returns-7 Inv-loop2 μ-loop2 Inv-loop μ-loop
 unfolding sceneWith
 returns-7 c = stop-block (c .before) 11 (block-ended (before (c .before)) (drop (c .before .before .loop .start) (input (c .before))) (c .if1 .taken))
 
--- src/lib.rt:58:1
+-- src/lib.rt:61:1
 returns-8 : tie.Need-returns-8 Inv-loop2 μ-loop2 Inv-loop μ-loop
 unfolding sceneWith
 returns-8 c =
@@ -536,7 +630,7 @@ read-blocks-spec =
     refused-in-requires
     returns
     shared-slice-read-k
-    add-t52
+    add-t59
     context-requires
     time-at-requires
     refused-in-requires-2
@@ -557,19 +651,31 @@ read-blocks-spec =
     enum-known-message-2
     cleared-scene-requires
     apply-rest-requires
-    read-update-requires
-    refused-in-requires-5
-    returns-5
-    cast-i-2
+    sub-if8
+    add-update-head
+    update-head-requires
     mul-b
     array-copy-out-b
-    fill-update-requires
+    update-fields-requires
     mul-records
     array-set-from-records
     array-write-present
     add-messages
     loop2-less
     loop2-again
+    read-update-requires
+    refused-in-requires-5
+    returns-5
+    cast-i-2
+    mul-b-2
+    array-copy-out-b-2
+    fill-update-requires
+    mul-records-2
+    array-set-from-records-2
+    array-write-present-2
+    add-messages-2
+    loop2-less-2
+    loop2-again-2
     add-blocks
     loop-less
     loop-again

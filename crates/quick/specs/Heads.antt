@@ -1,0 +1,25 @@
+-- An update's mask and entity.
+use mathlib.Core.List.{List}
+use Prim.Native.Nat.{ℕ, suc, _+_, _*_}
+use lib.ListN.{take, drop}
+use Rattle.dem.specs.Bytes.{leRead, bit, bitOf}
+use Rattle.dem.specs.Message.{highBit, wideBit}
+use Rattle.quick.specs.Spread.{fieldOr, behind}
+use Rattle.quick.specs.declared.UpdateHead.{UpdateHead}
+
+-- The byte of high mask bits, 0 where it is not sent.
+abbrev pub highAt : List ℕ → ℕ → ℕ → ℕ
+highAt d at low = fieldOr d at (bit low highBit) 1 0
+
+abbrev pub maskAt : List ℕ → ℕ → ℕ → ℕ
+maskAt d at low = highAt d at low * 256 + low
+
+-- How many bytes the entity has.
+abbrev pub entityWidth : ℕ → ℕ
+entityWidth mask = suc (bitOf (bit mask wideBit))
+
+unfoldable pub headAt : List ℕ → ℕ → ℕ → UpdateHead
+headAt d at low =
+    let w = entityWidth (maskAt d at low) in
+    let q = behind at (bit low highBit) 1 in
+    record { mask = maskAt d at low; entity = leRead (take w (drop q d)); next = q + w }

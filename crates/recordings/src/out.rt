@@ -1,0 +1,105 @@
+// Numbers, bytes and fields on standard output. A field is shown by its bits, in as many hex digits as it has.
+
+// What stands where no byte is.
+const NO_BYTE: u64 = 256;
+
+pub fn say(text: &[u8]) {
+    io::write_all(1, text);
+}
+
+pub fn number(name: &[u8], v: usize) {
+    say(name);
+    io::print_decimal(1, v as u64);
+}
+
+// A track number.
+pub fn track(v: i16) {
+    let bits = pieces::unsigned16(v) as u64;
+    if v < 0 {
+        say(b" track -");
+        io::print_decimal(1, 65536 - bits);
+    } else {
+        say(b" track ");
+        io::print_decimal(1, bits);
+    }
+}
+
+fn hex(v: u64, width: usize) {
+    io::print_hex(1, v, width);
+}
+
+fn wide(b: u8) -> u64 {
+    b as u64
+}
+
+fn byte_at(b: &[u8], i: usize) -> u64 {
+    if i < b.len() {
+        return wide(b[i]);
+    }
+    NO_BYTE
+}
+
+fn byte_before(b: &[u8], i: usize, back: usize) -> u64 {
+    if back <= i {
+        return byte_at(b, i - back);
+    }
+    NO_BYTE
+}
+
+fn show_byte(b: &[u8], i: usize) {
+    hex(byte_at(b, i), 2);
+}
+
+// The first bytes.
+pub fn bytes(b: &[u8], count: usize) {
+    for i in 0..count {
+        show_byte(b, i);
+    }
+}
+
+fn show_change(b: &[u8], i: usize) {
+    let this = byte_at(b, i);
+    if this != byte_before(b, i, 2) {
+        number(b" ", i);
+        say(b":");
+        hex(this, 2);
+    }
+}
+
+// The first bytes in a short form: each place whose byte is not the one two places before it, with its byte.
+pub fn changes(b: &[u8], count: usize) {
+    for i in 0..count {
+        show_change(b, i);
+    }
+}
+
+pub fn byte(name: &[u8], v: u8) {
+    say(name);
+    hex(wide(v), 2);
+}
+
+pub fn word(name: &[u8], v: u16) {
+    say(name);
+    hex(v as u64, 4);
+}
+
+pub fn short(name: &[u8], v: i16) {
+    word(name, pieces::unsigned16(v));
+}
+
+pub fn bits(name: &[u8], v: u32) {
+    say(name);
+    hex(v as u64, 8);
+}
+
+pub fn long(name: &[u8], v: i32) {
+    bits(name, pieces::unsigned32(v));
+}
+
+pub fn flag(name: &[u8], set: bool) {
+    if set {
+        byte(name, 1);
+    } else {
+        byte(name, 0);
+    }
+}

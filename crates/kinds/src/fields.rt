@@ -1,5 +1,4 @@
 // A message's fields as sent, by the names that the second reader has for them.
-use crate::out;
 use message::Entity;
 use message::Look;
 use message::Message;
@@ -13,89 +12,89 @@ use message::Vector;
 use wire::Text;
 
 fn stat(i: u8, v: i32) {
-    out::byte(b" stat=", i);
-    out::long(b" value=", v);
+    show::byte(b" stat=", i);
+    show::long(b" value=", v);
 }
 
 fn entity(e: Entity) {
-    out::word(b" entity=", e.0);
+    show::word(b" entity=", e.0);
 }
 
 fn player(p: Player) {
-    out::byte(b" player=", p.0);
+    show::byte(b" player=", p.0);
 }
 
 fn sound(s: Sound) {
     let source = s.entity;
     let origin = s.origin;
-    out::byte(b" mask=", s.mask);
-    out::byte(b" volume=", s.volume);
-    out::byte(b" attenuation=", s.attenuation);
+    show::byte(b" mask=", s.mask);
+    show::byte(b" volume=", s.volume);
+    show::byte(b" attenuation=", s.attenuation);
     stopsound(s.channel, source);
-    out::byte(b" sound=", s.sound);
-    out::vector(origin);
+    show::byte(b" sound=", s.sound);
+    show::vector(origin);
 }
 
 fn stopsound(channel: u8, e: Entity) {
-    out::byte(b" channel=", channel);
+    show::byte(b" channel=", channel);
     entity(e);
 }
 
 fn angles(a: i8, b: i8, c: i8) {
-    out::char(b" angle0=", a);
-    out::char(b" angle1=", b);
-    out::char(b" angle2=", c);
+    show::char(b" angle0=", a);
+    show::char(b" angle1=", b);
+    show::char(b" angle2=", c);
 }
 
 fn serverinfo(s: Serverinfo) {
     let map = s.map;
     let names = s.names;
-    out::long(b" protocol=", s.protocol);
-    out::byte(b" limit=", s.limit);
-    out::byte(b" game=", s.game);
-    out::text(b" map=", map);
-    out::text(b" names=", names);
+    show::long(b" protocol=", s.protocol);
+    show::byte(b" limit=", s.limit);
+    show::byte(b" game=", s.game);
+    show::text(b" map=", map);
+    show::text(b" names=", names);
 }
 
 fn style(i: u8, t: Text) {
-    out::byte(b" style=", i);
-    out::text(b" text=", t);
+    show::byte(b" style=", i);
+    show::text(b" text=", t);
 }
 
 fn name(p: Player, t: Text) {
     player(p);
-    out::text(b" text=", t);
+    show::text(b" text=", t);
 }
 
 fn frags(p: Player, v: i16) {
     player(p);
-    out::short(b" frags=", v);
+    show::short(b" frags=", v);
 }
 
 fn colours(p: Player, v: u8) {
     player(p);
-    out::byte(b" colours=", v);
+    show::byte(b" colours=", v);
 }
 
 fn particle(p: Particle) {
     let origin = p.origin;
-    out::vector(origin);
-    out::char(b" velocity0=", p.direction0);
-    out::char(b" velocity1=", p.direction1);
-    out::char(b" velocity2=", p.direction2);
-    out::byte(b" count=", p.count);
-    out::byte(b" colour=", p.colour);
+    show::vector(origin);
+    show::char(b" velocity0=", p.direction0);
+    show::char(b" velocity1=", p.direction1);
+    show::char(b" velocity2=", p.direction2);
+    show::byte(b" count=", p.count);
+    show::byte(b" colour=", p.colour);
 }
 
 fn damage(save: u8, take: u8, origin: Vector) {
-    out::byte(b" save=", save);
-    out::byte(b" take=", take);
-    out::vector(origin);
+    show::byte(b" save=", save);
+    show::byte(b" take=", take);
+    show::vector(origin);
 }
 
 fn thing(look: Look, pose: Pose) {
-    out::look(look);
-    out::pose(pose);
+    show::look(look);
+    show::pose(pose);
 }
 
 fn baseline(e: Entity, look: Look, pose: Pose) {
@@ -104,19 +103,19 @@ fn baseline(e: Entity, look: Look, pose: Pose) {
 }
 
 fn line(kind: u8, e: Entity, start: Vector, end: Vector) {
-    out::byte(b" type=", kind);
+    show::byte(b" type=", kind);
     entity(e);
-    out::short(b" start_x=", start.x);
-    out::short(b" start_y=", start.y);
-    out::short(b" start_z=", start.z);
-    out::short(b" end_x=", end.x);
-    out::short(b" end_y=", end.y);
-    out::short(b" end_z=", end.z);
+    show::short(b" start_x=", start.x);
+    show::short(b" start_y=", start.y);
+    show::short(b" start_z=", start.z);
+    show::short(b" end_x=", end.x);
+    show::short(b" end_y=", end.y);
+    show::short(b" end_z=", end.z);
 }
 
 fn point(kind: u8, origin: Vector) {
-    out::byte(b" type=", kind);
-    out::vector(origin);
+    show::byte(b" type=", kind);
+    show::vector(origin);
 }
 
 fn temporary(t: Temporary) {
@@ -127,27 +126,27 @@ fn temporary(t: Temporary) {
 }
 
 fn static_sound(origin: Vector, sound: u8, volume: u8, attenuation: u8) {
-    out::vector(origin);
-    out::byte(b" sound=", sound);
-    out::byte(b" volume=", volume);
-    out::byte(b" attenuation=", attenuation);
+    show::vector(origin);
+    show::byte(b" sound=", sound);
+    show::byte(b" volume=", volume);
+    show::byte(b" attenuation=", attenuation);
 }
 
 fn track(from: u8, to: u8) {
-    out::byte(b" from=", from);
-    out::byte(b" to=", to);
+    show::byte(b" from=", from);
+    show::byte(b" to=", to);
 }
 
 // Of an update and clientdata, whose masks `cases` runs, nothing.
 pub fn show(m: Message) {
     match m {
         Message::Stat(i, v) => stat(i, v),
-        Message::Version(v) => out::long(b" protocol=", v),
+        Message::Version(v) => show::long(b" protocol=", v),
         Message::View(e) => entity(e),
         Message::Sound(s) => sound(s),
-        Message::Time(t) => out::bits(b" time=", t),
-        Message::Print(t) => out::text(b" text=", t),
-        Message::Stufftext(t) => out::text(b" text=", t),
+        Message::Time(t) => show::bits(b" time=", t),
+        Message::Print(t) => show::text(b" text=", t),
+        Message::Stufftext(t) => show::text(b" text=", t),
         Message::SetAngles(a, b, c) => angles(a, b, c),
         Message::Serverinfo(s) => serverinfo(s),
         Message::Style(i, t) => style(i, t),
@@ -160,13 +159,13 @@ pub fn show(m: Message) {
         Message::Static(look, pose) => thing(look, pose),
         Message::Baseline(e, look, pose) => baseline(e, look, pose),
         Message::Temporary(t) => temporary(t),
-        Message::Pause(v) => out::byte(b" pause=", v),
-        Message::Signon(v) => out::byte(b" signon=", v),
-        Message::Centerprint(t) => out::text(b" text=", t),
+        Message::Pause(v) => show::byte(b" pause=", v),
+        Message::Signon(v) => show::byte(b" signon=", v),
+        Message::Centerprint(t) => show::text(b" text=", t),
         Message::StaticSound(v, a, b, c) => static_sound(v, a, b, c),
-        Message::Finale(t) => out::text(b" text=", t),
+        Message::Finale(t) => show::text(b" text=", t),
         Message::Track(from, to) => track(from, to),
-        Message::Cutscene(t) => out::text(b" text=", t),
-        _ => out::say(b" -"),
+        Message::Cutscene(t) => show::text(b" text=", t),
+        _ => show::say(b" -"),
     }
 }

@@ -1,11 +1,10 @@
 // The game: its numbers, times and players.
-use crate::out;
 use crate::scenes;
 use crate::steps;
 use scene::Scene;
 
 fn numbers(start: Scene) {
-    out::say(b"nop, stat, version\n");
+    show::say(b"nop, stat, version\n");
     let a = steps::step(start, &[1]);
     let b = steps::step(a, &[3, 31, 254, 255, 255, 255]);
     let c = steps::step(b, &[3, 32, 0, 0, 0, 0]);
@@ -15,7 +14,7 @@ fn numbers(start: Scene) {
 }
 
 fn counts(start: Scene) {
-    out::say(b"killed, secret, pause, signon\n");
+    show::say(b"killed, secret, pause, signon\n");
     let a = steps::step(start, &[3, 13, 255, 255, 255, 127]);
     let b = steps::step(a, &[28]);
     let c = steps::step(b, &[27]);
@@ -26,7 +25,7 @@ fn counts(start: Scene) {
 }
 
 fn times(start: Scene) {
-    out::say(b"time, which clears the marks\n");
+    show::say(b"time, which clears the marks\n");
     let a = steps::step(start, &[7, 0, 0, 128, 63]);
     let b = steps::step(a, &[129, 64, 192, 1]);
     scenes::entity(b);
@@ -38,7 +37,7 @@ fn times(start: Scene) {
 }
 
 fn odd_times(start: Scene) {
-    out::say(b"time: 0, the highest, the first above, minus zero\n");
+    show::say(b"time: 0, the highest, the first above, minus zero\n");
     let a = steps::step(start, &[7, 0, 0, 0, 0]);
     let b = steps::step(a, &[7, 255, 255, 127, 127]);
     let c = steps::step(b, &[7, 0, 0, 128, 127]);
@@ -47,7 +46,7 @@ fn odd_times(start: Scene) {
 }
 
 fn players(start: Scene) {
-    out::say(b"serverinfo, name, frags, colours\n");
+    show::say(b"serverinfo, name, frags, colours\n");
     let a = steps::step(start, b"\x0b\x0f\0\0\0\x04\x01e1m1\0m\0n\0\0s\0\0");
     let b = steps::step(a, b"\x0d\x03Ada\0");
     let c = steps::step(b, &[14, 3, 254, 255]);
@@ -59,7 +58,7 @@ fn players(start: Scene) {
 }
 
 fn clearing(start: Scene) {
-    out::say(b"serverinfo clears the scene; limit and protocol\n");
+    show::say(b"serverinfo clears the scene; limit and protocol\n");
     let a = steps::step(start, &[11, 15, 0, 0, 0, 16, 0, 0, 0, 0]);
     let b = steps::step(a, &[17, 3, 77]);
     let c = steps::step(b, &[24, 1]);
@@ -71,7 +70,7 @@ fn clearing(start: Scene) {
 }
 
 fn ending(start: Scene) {
-    out::say(b"disconnect\n");
+    show::say(b"disconnect\n");
     let a = steps::step(start, &[2]);
     scenes::show(a);
     steps::step(a, &[1]);

@@ -1,5 +1,4 @@
 // The longest string and the first too long, the most names and one more, the last static and one more.
-use crate::out;
 use crate::scenes;
 use crate::steps;
 use scene::Scene;
@@ -8,7 +7,7 @@ use scene::Scene;
 const LONGEST: usize = 1032;
 
 fn longest_string(start: Scene) {
-    out::say(b"a string of 2,046 bytes\n");
+    show::say(b"a string of 2,046 bytes\n");
     let mut b = [65u8; 2048];
     b[0] = 8;
     b[2047] = 0;
@@ -16,7 +15,7 @@ fn longest_string(start: Scene) {
 }
 
 fn too_long_string(start: Scene) {
-    out::say(b"a string of 2,047 bytes\n");
+    show::say(b"a string of 2,047 bytes\n");
     let mut b = [65u8; 2049];
     b[0] = 8;
     b[2048] = 0;
@@ -52,11 +51,11 @@ fn server(start: Scene, models: usize, at: usize, sounds: usize) {
 }
 
 fn names(start: Scene) {
-    out::say(b"255 models and 255 sounds\n");
+    show::say(b"255 models and 255 sounds\n");
     server(start, 255, 519, 255);
-    out::say(b"256 models\n");
+    show::say(b"256 models\n");
     server(start, 256, 521, 1);
-    out::say(b"256 sounds\n");
+    show::say(b"256 sounds\n");
     server(start, 255, 519, 256);
 }
 
@@ -74,7 +73,7 @@ fn static_25_times(s: Scene) -> Scene {
 }
 
 fn statics(start: Scene) {
-    out::say(b"the 128th static and the 129th\n  127 times 1400000000000000000000000000\n");
+    show::say(b"the 128th static and the 129th\n  127 times 1400000000000000000000000000\n");
     let a = static_25_times(static_25_times(static_25_times(start)));
     let b = static_25_times(static_25_times(a));
     let c = static_once(static_once(b));

@@ -4,7 +4,6 @@
 mod fields;
 mod game;
 mod limits;
-mod out;
 mod scenes;
 mod steps;
 mod words;

@@ -1,5 +1,4 @@
 // The parts of a scene that a message without a mask can change.
-use crate::out;
 use scene::Baseline;
 use scene::PlayerLine;
 use scene::Record;
@@ -7,52 +6,52 @@ use scene::Rest;
 use scene::Scene;
 
 fn stats(s: [i32; 32]) {
-    out::long(b"\n  scene stat13=", s[13]);
-    out::long(b" stat14=", s[14]);
-    out::long(b" stat31=", s[31]);
+    show::long(b"\n  scene stat13=", s[13]);
+    show::long(b" stat14=", s[14]);
+    show::long(b" stat31=", s[31]);
 }
 
 fn player(line: PlayerLine) {
-    out::short(b" frags=", line.frags);
-    out::byte(b" colours=", line.colours);
-    out::say(b"\n");
+    show::short(b" frags=", line.frags);
+    show::byte(b" colours=", line.colours);
+    show::say(b"\n");
 }
 
 fn time(timed: bool, bits: u32) {
     if timed {
-        out::bits(b" time=", bits);
+        show::bits(b" time=", bits);
     } else {
-        out::say(b" time=none");
+        show::say(b" time=none");
     }
 }
 
 fn single(rest: Rest) {
     let view = rest.view;
-    out::flag(b"  scene ended=", rest.ended);
+    show::flag(b"  scene ended=", rest.ended);
     time(rest.timed, rest.time);
-    out::byte(b" limit=", rest.limit);
-    out::word(b" view=", view.0);
-    out::byte(b" pause=", rest.pause);
-    out::byte(b" statics=", rest.statics);
+    show::byte(b" limit=", rest.limit);
+    show::word(b" view=", view.0);
+    show::byte(b" pause=", rest.pause);
+    show::byte(b" statics=", rest.statics);
 }
 
 fn baseline(b: Baseline) {
     let look = b.look;
     let pose = b.pose;
-    out::say(b"  baseline");
-    out::look(look);
-    out::pose(pose);
+    show::say(b"  baseline");
+    show::look(look);
+    show::pose(pose);
 }
 
 fn record(r: Record, present: bool) {
     let look = r.look;
     let pose = r.pose;
-    out::flag(b"\n  record present=", present);
-    out::look(look);
-    out::byte(b" effects=", r.effects);
-    out::pose(pose);
-    out::flag(b" bit5=", r.bit5);
-    out::say(b"\n");
+    show::flag(b"\n  record present=", present);
+    show::look(look);
+    show::byte(b" effects=", r.effects);
+    show::pose(pose);
+    show::flag(b" bit5=", r.bit5);
+    show::say(b"\n");
 }
 
 // All but the tables of entities; of the players the line of player 3.

@@ -1,53 +1,52 @@
 // One message read in a scene and written back into room that held EE.
 use crate::fields;
-use crate::out;
 use cobbrundle::MessageAnswer;
 use cobbrundle::WriteAnswer;
 use message::Message;
 use scene::Scene;
 
 fn refused(n: u8, at: usize) {
-    out::say(b"  refused ");
-    out::number(n as u64);
-    out::say(b" at ");
-    out::number(at as u64);
-    out::say(b"\n");
+    show::say(b"  refused ");
+    show::number(n as u64);
+    show::say(b" at ");
+    show::number(at as u64);
+    show::say(b"\n");
 }
 
 fn found(m: Message, next: usize) {
-    out::say(b"  next ");
-    out::number(next as u64);
-    out::say(b"\n  sent");
+    show::say(b"  next ");
+    show::number(next as u64);
+    show::say(b"\n  sent");
     fields::show(m);
-    out::say(b"\n");
+    show::say(b"\n");
 }
 
 // A message of more bytes than these is shown in the short form.
 const PLAIN: usize = 24;
 
 fn show_read(bytes: &[u8]) {
-    out::say(b"  read ");
+    show::say(b"  read ");
     if bytes.len() <= PLAIN {
-        out::bytes(bytes, bytes.len());
+        show::bytes(bytes, bytes.len());
     } else {
-        out::number(bytes.len() as u64);
-        out::say(b":");
-        out::changes(bytes, bytes.len());
+        show::number(bytes.len() as u64);
+        show::say(b":");
+        show::changes(bytes, bytes.len());
     }
-    out::say(b"\n");
+    show::say(b"\n");
 }
 
 fn show_written(n: usize, room: &[u8]) {
-    out::say(b"  written ");
-    out::number(n as u64);
-    out::say(b":");
+    show::say(b"  written ");
+    show::number(n as u64);
+    show::say(b":");
     if n < PLAIN {
-        out::say(b" ");
-        out::bytes(room, PLAIN);
+        show::say(b" ");
+        show::bytes(room, PLAIN);
     } else {
-        out::changes(room, room.len());
+        show::changes(room, room.len());
     }
-    out::say(b"\n");
+    show::say(b"\n");
 }
 
 fn write_back(s: Scene, m: Message, text: &[u8]) {
@@ -70,7 +69,7 @@ pub fn step(s: Scene, bytes: &[u8]) -> Scene {
             found(m, next);
             write_back(s, m, bytes);
         }
-        MessageAnswer::End => out::say(b"  end\n"),
+        MessageAnswer::End => show::say(b"  end\n"),
         MessageAnswer::Refused(n, p) => refused(n, p),
     }
     r.scene

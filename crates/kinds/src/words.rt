@@ -1,11 +1,10 @@
 // Messages that have a string, and those that only show something.
-use crate::out;
 use crate::scenes;
 use crate::steps;
 use scene::Scene;
 
 fn strings(start: Scene) {
-    out::say(b"print, stufftext, centerprint, finale, cutscene\n");
+    show::say(b"print, stufftext, centerprint, finale, cutscene\n");
     let a = steps::step(start, b"\x08hi\n\0");
     let b = steps::step(a, b"\x09bf\n\0");
     let c = steps::step(b, b"\x1a\0");
@@ -15,7 +14,7 @@ fn strings(start: Scene) {
 }
 
 fn styles(start: Scene) {
-    out::say(b"style, cd track, intermission, sellscreen\n");
+    show::say(b"style, cd track, intermission, sellscreen\n");
     let a = steps::step(start, b"\x0c\x3fmmnm\0");
     let b = steps::step(a, b"\x0c\x40mmnm\0");
     let c = steps::step(b, &[32, 2, 3]);
@@ -25,7 +24,7 @@ fn styles(start: Scene) {
 }
 
 fn cut(start: Scene) {
-    out::say(b"cut off, FF in a string, a reserved bit\n");
+    show::say(b"cut off, FF in a string, a reserved bit\n");
     let a = steps::step(start, &[3, 31, 254, 255, 255]);
     let b = steps::step(a, b"\x1acut");
     let c = steps::step(b, b"\x09a\xff\0");
@@ -35,7 +34,7 @@ fn cut(start: Scene) {
 }
 
 fn unknown(start: Scene) {
-    out::say(b"numbers that no message has\n");
+    show::say(b"numbers that no message has\n");
     let a = steps::step(start, &[0]);
     let b = steps::step(a, &[21]);
     let c = steps::step(b, &[35]);

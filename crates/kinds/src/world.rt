@@ -1,11 +1,10 @@
 // The world: views, sounds, things that stay, and things that last for a moment.
-use crate::out;
 use crate::scenes;
 use crate::steps;
 use scene::Scene;
 
 fn views(start: Scene) {
-    out::say(b"view, setangles\n");
+    show::say(b"view, setangles\n");
     let a = steps::step(start, &[5, 192, 1]);
     let b = steps::step(a, &[5, 193, 1]);
     let c = steps::step(b, &[5, 255, 255]);
@@ -14,7 +13,7 @@ fn views(start: Scene) {
 }
 
 fn sounds(start: Scene) {
-    out::say(b"sound, stopsound, static sound\n");
+    show::say(b"sound, stopsound, static sound\n");
     let a = steps::step(start, &[6, 3, 98, 99, 7, 14, 7, 1, 2, 3, 4, 5, 255]);
     let b = steps::step(a, &[6, 0, 8, 14, 7, 1, 2, 3, 4, 5, 255]);
     let c = steps::step(b, &[16, 7, 14]);
@@ -24,14 +23,14 @@ fn sounds(start: Scene) {
 }
 
 fn moments(start: Scene) {
-    out::say(b"particle, damage\n");
+    show::say(b"particle, damage\n");
     let a = steps::step(start, &[18, 1, 2, 3, 4, 5, 255, 7, 128, 255, 10, 11]);
     let b = steps::step(a, &[19, 1, 2, 3, 4, 5, 6, 7, 255]);
     scenes::show(b);
 }
 
 fn things(start: Scene) {
-    out::say(b"static, baseline\n");
+    show::say(b"static, baseline\n");
     let a = steps::step(start, &[20, 1, 2, 3, 4, 5, 6, 7, 8, 9, 250, 11, 12, 253]);
     let b = steps::step(
         a,
@@ -47,7 +46,7 @@ fn things(start: Scene) {
 }
 
 fn points(start: Scene) {
-    out::say(b"temporary entities of one place\n");
+    show::say(b"temporary entities of one place\n");
     let a = steps::step(start, &[23, 0, 1, 2, 3, 4, 5, 255]);
     let b = steps::step(a, &[23, 1, 1, 2, 3, 4, 5, 255]);
     let c = steps::step(b, &[23, 2, 1, 2, 3, 4, 5, 255]);
@@ -66,7 +65,7 @@ fn more_points(start: Scene) {
 }
 
 fn lines(start: Scene) {
-    out::say(b"temporary entities of two places\n");
+    show::say(b"temporary entities of two places\n");
     let a = steps::step(
         start,
         &[23, 5, 192, 1, 1, 2, 3, 4, 5, 255, 7, 8, 9, 10, 11, 12],

@@ -1,5 +1,4 @@
 // What each entry answers, and the scene that it hands back.
-use crate::out;
 use cobbrundle::BlockAnswer;
 use cobbrundle::BlocksAnswer;
 use cobbrundle::Outline;
@@ -14,36 +13,36 @@ use scene::Scene;
 const PLAIN: usize = 80;
 
 fn refused(n: u8, at: usize) {
-    out::number(b" refused ", n as usize);
-    out::number(b" at ", at);
+    show::count(b" refused ", n as usize);
+    show::count(b" at ", at);
 }
 
 fn time(timed: bool, bits: u32) {
     if timed {
-        out::bits(b" time=", bits);
+        show::bits(b" time=", bits);
     } else {
-        out::say(b" time=none");
+        show::say(b" time=none");
     }
 }
 
 fn single(rest: Rest) {
     let view = rest.view;
-    out::flag(b"\n  scene ended=", rest.ended);
+    show::flag(b"\n  scene ended=", rest.ended);
     time(rest.timed, rest.time);
-    out::byte(b" limit=", rest.limit);
-    out::word(b" view=", view.0);
-    out::byte(b" pause=", rest.pause);
-    out::byte(b" statics=", rest.statics);
-    out::long(b" stat5=", rest.stats[5]);
+    show::byte(b" limit=", rest.limit);
+    show::word(b" view=", view.0);
+    show::byte(b" pause=", rest.pause);
+    show::byte(b" statics=", rest.statics);
+    show::long(b" stat5=", rest.stats[5]);
 }
 
 fn record(r: Record, present: bool) {
     let pose = r.pose;
     let look = r.look;
-    out::flag(b" present=", present);
-    out::byte(b" model=", look.model);
-    out::short(b" x=", pose.x);
-    out::say(b"\n");
+    show::flag(b" present=", present);
+    show::byte(b" model=", look.model);
+    show::short(b" x=", pose.x);
+    show::say(b"\n");
 }
 
 // The single values, a stat, and the record of entity 5.
@@ -54,22 +53,22 @@ fn scene(s: Scene) {
 }
 
 fn input(name: &[u8], bytes: &[u8]) {
-    out::say(name);
-    out::number(b"\n  bytes ", bytes.len());
+    show::say(name);
+    show::count(b"\n  bytes ", bytes.len());
     if PLAIN < bytes.len() {
-        out::say(b":");
-        out::changes(bytes, bytes.len());
+        show::say(b":");
+        show::changes(bytes, bytes.len());
     } else if 0 < bytes.len() {
-        out::say(b": ");
-        out::bytes(bytes, bytes.len());
+        show::say(b": ");
+        show::bytes(bytes, bytes.len());
     }
-    out::say(b"\n  recording:");
+    show::say(b"\n  recording:");
 }
 
 fn read(track: i16, blocks: usize, messages: usize) {
-    out::track(track);
-    out::number(b" blocks ", blocks);
-    out::number(b" messages ", messages);
+    show::track(track);
+    show::count(b" blocks ", blocks);
+    show::count(b" messages ", messages);
 }
 
 // The scene that the recording leads to; with a refusal, the scene at the start.
@@ -88,31 +87,31 @@ pub fn recording(name: &[u8], bytes: &[u8]) -> Scene {
 
 // The track line of a recording.
 pub fn track(bytes: &[u8]) {
-    out::say(b"  track line:");
+    show::say(b"  track line:");
     match cobbrundle::read_track(bytes) {
         TrackAnswer::Found(track, next) => {
-            out::track(track);
-            out::number(b" next ", next);
+            show::track(track);
+            show::count(b" next ", next);
         }
         TrackAnswer::Refused(n, at) => refused(n, at),
     }
-    out::say(b"\n");
+    show::say(b"\n");
 }
 
 fn asked(name: &[u8], at: usize, given: &[u8]) {
-    out::number(name, at);
-    out::say(b" in ");
-    out::say(given);
-    out::say(b":");
+    show::count(name, at);
+    show::say(b" in ");
+    show::say(given);
+    show::say(b":");
 }
 
 fn outline(o: Outline) {
-    out::bits(b" angles ", o.angle0);
-    out::bits(b" ", o.angle1);
-    out::bits(b" ", o.angle2);
-    out::number(b" start ", o.start);
-    out::number(b" messages ", o.messages);
-    out::number(b" next ", o.next);
+    show::bits(b" angles ", o.angle0);
+    show::bits(b" ", o.angle1);
+    show::bits(b" ", o.angle2);
+    show::count(b" start ", o.start);
+    show::count(b" messages ", o.messages);
+    show::count(b" next ", o.next);
 }
 
 // The block at a place, in a scene by its name: `start`, `scene N` for the one after the recording's first N bytes, or another.
@@ -122,7 +121,7 @@ pub fn block(bytes: &[u8], at: usize, given: &[u8], s: Scene) -> Scene {
     let answer = r.answer;
     match answer {
         BlockAnswer::Found(o) => outline(o),
-        BlockAnswer::End => out::say(b" end"),
+        BlockAnswer::End => show::say(b" end"),
         BlockAnswer::Refused(n, place) => refused(n, place),
     }
     let after = r.scene;
@@ -131,11 +130,11 @@ pub fn block(bytes: &[u8], at: usize, given: &[u8], s: Scene) -> Scene {
 }
 
 fn progress(p: Progress) {
-    out::number(b" blocks ", p.blocks);
-    out::number(b" messages ", p.messages);
-    out::number(b" next ", p.next);
-    out::number(b" refusal ", p.refusal as usize);
-    out::number(b" place ", p.place);
+    show::count(b" blocks ", p.blocks);
+    show::count(b" messages ", p.messages);
+    show::count(b" next ", p.next);
+    show::count(b" refusal ", p.refusal as usize);
+    show::count(b" place ", p.place);
 }
 
 // The blocks from a place on.

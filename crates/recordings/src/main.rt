@@ -7,7 +7,6 @@ mod heads;
 mod limits;
 mod make;
 mod marked;
-mod out;
 mod runs;
 mod tracks;
 

@@ -1,10 +1,10 @@
--- `kinds::out::changes` ends.
+-- `show::bytes` ends.
 -- Assumes nothing.
 use Prim.Native.Nat.{_-_, _≤_}
 use native.Mathlib.Omega.{arith}
 use borrow.Author.Needs.{needs}
-use Rattle.kinds.proofs.out.changes.Statement.{statement}
-use Rattle.kinds.proofs.out.changes.Tie as tie
+use Rattle.show.proofs.bytes.Statement.{statement}
+use Rattle.show.proofs.bytes.Tie as tie
 
 abbrev Inv-loop : tie.InvT-loop
 Inv-loop b count i₀ i = i ≤ count
@@ -15,8 +15,8 @@ abbrev μ-loop : tie.MeasureT-loop
 loop-holds : tie.Need-loop-holds Inv-loop μ-loop
 loop-holds c = omega arith
 
-show-change-requires : tie.Need-show-change-requires Inv-loop μ-loop
-show-change-requires c κs = search needs
+show-byte-requires : tie.Need-show-byte-requires Inv-loop μ-loop
+show-byte-requires c κs = search needs
 
 add-i : tie.Need-add-i Inv-loop μ-loop
 add-i c = omega arith
@@ -30,5 +30,5 @@ loop-again c = omega arith
 returns : tie.Need-returns Inv-loop μ-loop
 returns c = search needs
 
-pub changes-spec : {M : Type 1} → statement M
-changes-spec = tie.close (tie.spec Inv-loop μ-loop loop-holds show-change-requires add-i loop-less loop-again returns)
+pub bytes-spec : {M : Type 1} → statement M
+bytes-spec = tie.close (tie.spec Inv-loop μ-loop loop-holds show-byte-requires add-i loop-less loop-again returns)

@@ -1,4 +1,5 @@
-// Numbers, bytes and fields on standard output. A field is shown by its bits, in as many hex digits as it has.
+// Numbers, bytes and fields on standard output, for the programs whose output is stored. A field is shown by its bits, in as many hex
+// digits as it has.
 use message::Look;
 use message::Pose;
 use message::Vector;
@@ -13,6 +14,22 @@ pub fn say(text: &[u8]) {
 
 pub fn number(v: u64) {
     io::print_decimal(1, v);
+}
+
+pub fn count(name: &[u8], v: usize) {
+    say(name);
+    number(v as u64);
+}
+
+pub fn track(v: i16) {
+    let bits = pieces::unsigned16(v) as u64;
+    if v < 0 {
+        say(b" track -");
+        number(65536 - bits);
+    } else {
+        say(b" track ");
+        number(bits);
+    }
 }
 
 fn hex(v: u64, width: usize) {
@@ -51,8 +68,7 @@ pub fn bytes(b: &[u8], count: usize) {
 fn show_change(b: &[u8], i: usize) {
     let this = byte_at(b, i);
     if this != byte_before(b, i, 2) {
-        say(b" ");
-        number(i as u64);
+        count(b" ", i);
         say(b":");
         hex(this, 2);
     }
@@ -102,10 +118,8 @@ pub fn flag(name: &[u8], set: bool) {
 
 // A string's place and length.
 pub fn text(name: &[u8], t: Text) {
-    say(name);
-    number(t.start as u64);
-    say(b"+");
-    number(t.len as u64);
+    count(name, t.start);
+    count(b"+", t.len);
 }
 
 pub fn vector(v: Vector) {

@@ -1,10 +1,10 @@
--- `recordings::out::changes` ends.
+-- `show::changes` ends.
 -- Assumes nothing.
 use Prim.Native.Nat.{_-_, _≤_}
 use native.Mathlib.Omega.{arith}
 use borrow.Author.Needs.{needs}
-use Rattle.recordings.proofs.out.changes.Statement.{statement}
-use Rattle.recordings.proofs.out.changes.Tie as tie
+use Rattle.show.proofs.changes.Statement.{statement}
+use Rattle.show.proofs.changes.Tie as tie
 
 abbrev Inv-loop : tie.InvT-loop
 Inv-loop b count i₀ i = i ≤ count

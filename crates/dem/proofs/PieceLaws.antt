@@ -3,31 +3,32 @@
 -- Assumes nothing.
 use mathlib.Core.Path.{_≡_, refl, sym, ap, ap₂, _∙_}
 use mathlib.Core.Logic.{_≢_}
-use mathlib.Core.List.{List, _++_, append-assoc}
+use mathlib.Core.List.{List, [], _∷_, _++_, append-assoc}
 use mathlib.Core.Bool.{Bool, true, false, cond, not}
 use Prim.Native.Nat.{ℕ, zero, suc, _+_, _≤_}
 use native.Mathlib.Nat.{le-refl}
 use native.Mathlib.Omega.{arith}
-use borrow.Author.Tests.{leb-true, le-leb}
-use lib.Dec.{leb, eqb}
+use borrow.Author.Tests.{leb-true, le-leb, le-ltb}
+use lib.Dec.{leb, ltb, eqb}
 use lib.ListN.{length, take, drop, length-append, length-drop}
-use lib.Seq.{take-append-le, drop-append-le}
+use lib.Seq.{take-append-le, drop-append-le, drop-append-seam}
 use Rattle.dem.specs.Limits.{blockLimit, headSize}
-use Rattle.dem.specs.Refusal.{code, cutBlock, longBlock, afterDisconnect}
+use Rattle.dem.specs.Refusal.{code, cutBlock, longBlock, cutMessage, afterDisconnect, wrongScene}
 use Rattle.dem.specs.Bytes.{Bytes, Result, found, refused, mapResult, bind, refusedAt, unless, require, leRead, readNumber}
 use Rattle.dem.specs.Layout.{Value, number, Layout, done, field, put, parse}
-use Rattle.dem.specs.Scene.{Scene, fresh}
+use Rattle.dem.specs.Scene.{Scene, fresh, inRange}
 use Rattle.dem.specs.Message.{Message}
 use Rattle.dem.specs.Codec.{Run, runMost, readAll}
 use Rattle.dem.specs.Track.{TrackLine, readTrack, trackNumber}
 use Rattle.dem.specs.Recording.{messages, Block, blockOf, angleRule, angleLayout, readBefore, readBody, readSized, readBlock, blocks}
 use Rattle.dem.specs.Recording.{recordingOf, readRecording, fillRecording, placeIn}
-use Rattle.dem.specs.Answer.{countMessages, result, refusal, Reply, reply, Summary, wholeOf, whole}
+use Rattle.dem.specs.Answer.{Answer, countMessages, Progress, progressOf, blocksAt, result, refusal, Reply, reply, Summary, wholeOf, whole}
 use Rattle.dem.specs.WellFormed.{GoodBlock}
-use Rattle.dem.proofs.ByteLaws.{drop-bytes, number-takes}
+use Rattle.dem.proofs.ResultLaws.{clash}
+use Rattle.dem.proofs.ByteLaws.{append-bytes, drop-bytes, number-takes}
 use Rattle.dem.proofs.LayoutLaws.{Read, parse-sound}
 use Rattle.dem.proofs.CodecLaws.{most-enough, fill-length}
-use Rattle.dem.proofs.RunLaws.{joined, followed, run-state, run-all, run-more, run-refused}
+use Rattle.dem.proofs.RunLaws.{joined, followed, run-state, run-all, run-within, run-bytes, run-tiles, run-joined, run-stopped}
 use Rattle.dem.proofs.TrackLaws.{TrackRead, track-sound}
 use Rattle.dem.proofs.BlockLaws.{angles-length, block-lawful}
 use Rattle.dem.proofs.AnswerLaws.{count-filled, whole-refused}
@@ -136,16 +137,115 @@ block-steady s bs z n left h e lasting =
 
 -- ---- blocks in pieces
 
--- A run of blocks, then more bytes: its blocks stand, and what follows is read from where it stopped, in the scene after them.
-pub pieces-go-on : (n k : ℕ) (s : Scene) (a b : List ℕ) → Bytes a
-    → runMost blocks (length (runMost blocks n s a .items) + k) s (a ++ b)
-    ≡ joined (runMost blocks n s a) (runMost blocks k (runMost blocks n s a .state) (runMost blocks n s a .rest ++ b))
-pieces-go-on = run-more blocks GoodBlock block-lawful
+-- As many blocks as there are.
+abbrev pub allBlocks : Scene → List ℕ → Run Scene Block
+allBlocks s a = runMost blocks (length a) s a
 
--- A run of blocks that a refusal stopped, other than that a block is cut, is the same whatever bytes follow.
-pub pieces-stop : (n : ℕ) (s : Scene) (a b : List ℕ) → Bytes a → runMost blocks n s a .refusal ≢ 0
-    → runMost blocks n s a .refusal ≢ code cutBlock → runMost blocks n s (a ++ b) ≡ followed b (runMost blocks n s a)
-pieces-stop = run-refused blocks GoodBlock block-lawful (λ n. n ≡ code cutBlock) block-steady
+-- More bytes come: the blocks that were read stand, and what follows is read from where they end, in the scene after them.
+pub pieces-go-on : (s : Scene) (a b : List ℕ) → Bytes a → Bytes b
+    → allBlocks s (a ++ b) ≡ joined (allBlocks s a) (allBlocks (allBlocks s a .state) (allBlocks s a .rest ++ b))
+pieces-go-on = run-joined blocks GoodBlock block-lawful
+
+-- A refusal other than that a block is cut stands whatever bytes follow.
+pub pieces-stop : (s : Scene) (a b : List ℕ) → Bytes a → allBlocks s a .refusal ≢ 0 → allBlocks s a .refusal ≢ code cutBlock
+    → allBlocks s (a ++ b) ≡ followed b (allBlocks s a)
+pieces-stop = run-stopped blocks GoodBlock block-lawful (λ n. n ≡ code cutBlock) block-steady
+
+count-append : (us vs : List Block) → countMessages (us ++ vs) ≡ countMessages us + countMessages vs
+count-append [] vs = omega arith
+count-append (u ∷ us) vs = omega (arith, count-append us vs)
+
+-- What is told of two pieces.
+abbrev pub added : Progress → Progress → Progress
+added p q =
+    record {
+      blocks = p .blocks + q .blocks;
+      messages = p .messages + q .messages;
+      next = p .next + q .next;
+      refusal = q .refusal;
+      place = p .next + q .place;
+    }
+
+module _ (s : Scene) (a b : List ℕ) (ha : Bytes a) (hb : Bytes b) where
+  first : Run Scene Block
+  first = allBlocks s a
+
+  second : Run Scene Block
+  second = allBlocks (first .state) (first .rest ++ b)
+
+  progress-added : progressOf (a ++ b) (joined first second) ≡ added (progressOf a first) (progressOf (first .rest ++ b) second)
+  unfolding first second
+  progress-added =
+      λ i. record { blocks = eb i; messages = em i; next = en i; refusal = second .refusal; place = ep i }
+    where
+      more : Bytes (first .rest ++ b)
+      more = append-bytes (first .rest) b (run-bytes blocks GoodBlock block-lawful (length a) s a ha) hb
+
+      one : (length (first .rest) ≤ length a) × (length (first .left) ≤ length a)
+      one = run-within blocks GoodBlock block-lawful (length a) s a ha
+
+      two : (length (second .rest) ≤ length (first .rest ++ b)) × (length (second .left) ≤ length (first .rest ++ b))
+      two = run-within blocks GoodBlock block-lawful (length (first .rest ++ b)) (first .state) (first .rest ++ b) more
+
+      eb : length (first .items ++ second .items) ≡ length (first .items) + length (second .items)
+      eb = length-append (first .items) (second .items)
+
+      em : countMessages (first .items ++ second .items) ≡ countMessages (first .items) + countMessages (second .items)
+      em = count-append (first .items) (second .items)
+
+      en : placeIn (a ++ b) (second .rest) ≡ placeIn a (first .rest) + placeIn (first .rest ++ b) (second .rest)
+      en = omega (arith, one .0, two .0, length-append a b, length-append (first .rest) b)
+
+      ep : placeIn (a ++ b) (second .left) ≡ placeIn a (first .rest) + placeIn (first .rest ++ b) (second .left)
+      ep = omega (arith, one .0, two .1, length-append a b, length-append (first .rest) b)
+
+  rest-at : drop (placeIn a (first .rest)) a ≡ first .rest
+  unfolding first
+  rest-at =
+      let t = run-tiles blocks GoodBlock block-lawful (length a) s a ha in
+      let n : placeIn a (first .rest) ≡ length (t .0) = omega (arith, ap length (t .1), length-append (t .0) (first .rest)) in
+      ap (λ (k : ℕ). drop k a) n ∙ ap (drop (length (t .0))) (sym (t .1)) ∙ drop-append-seam (t .0) (first .rest)
+
+  replied : (u : Scene) (p : Progress) → blocksAt s a 0 ≡ reply u (result p)
+      → (inRange s ≡ true) × (u ≡ first .state) × (p ≡ progressOf a first)
+  unfolding first blocksAt
+  replied u p e = go (inRange s) refl (ltb (length a) 0) (sym e)
+    where
+      go : (x : Bool) → inRange s ≡ x → (y : Bool)
+          → reply u (result p)
+          ≡ cond (not x) (reply s (refusal (code wrongScene) 0)) (cond y (reply s (refusal (code cutMessage) 0)) (reply (first .state) (result (progressOf a first))))
+          → (inRange s ≡ true) × (u ≡ first .state) × (p ≡ progressOf a first)
+      go false q y f =
+          let z : _≡_ {A = Answer Progress} (result p) (refusal (code wrongScene) 0) = ap (λ (r : Reply Scene Progress). r .answer) f in
+          clash (cc)
+      go true q true f =
+          let z : _≡_ {A = Answer Progress} (result p) (refusal (code cutMessage) 0) = ap (λ (r : Reply Scene Progress). r .answer) f in
+          clash (cc)
+      go true q false f =
+          let z : _≡_ {A = Answer Progress} (result p) (result (progressOf a first)) = ap (λ (r : Reply Scene Progress). r .answer) f in
+          (q, ap (λ (r : Reply Scene Progress). r .scene) f, (cc))
+
+  told-all : inRange s ≡ true → blocksAt s (a ++ b) 0 ≡ reply (second .state) (result (progressOf (a ++ b) (joined first second)))
+  unfolding first second blocksAt
+  told-all e =
+      ap₂ (λ (x y : Bool). cond (not x) (reply s (refusal (code wrongScene) 0)) (cond y (reply s (refusal (code cutMessage) 0)) (reply (allBlocks s (a ++ b) .state) (result (progressOf (a ++ b) (allBlocks s (a ++ b)))))))
+      e (le-ltb (length (a ++ b)) 0 (omega arith))
+      ∙ ap (λ (r : Run Scene Block). reply (r .state) (result (progressOf (a ++ b) r))) (pieces-go-on s a b ha hb)
+
+-- Blocks in two pieces: the second call takes up where the first stopped, in the scene that it handed back, and what the two tell
+-- together is what one call tells of the whole.
+pub pieces-add : (s : Scene) (a b : List ℕ) → Bytes a → Bytes b → (t u : Scene) (p q : Progress) → blocksAt s a 0 ≡ reply t (result p)
+    → blocksAt t (drop (p .next) a ++ b) 0 ≡ reply u (result q) → blocksAt s (a ++ b) 0 ≡ reply u (result (added p q))
+unfolding first second
+pieces-add s a b ha hb t u p q e f =
+    let x = replied s a b ha hb t p e in
+    let rest : drop (p .next) a ≡ allBlocks s a .rest = ap (λ (k : Progress). drop (k .next) a) (x .2) ∙ rest-at s a b ha hb in
+    let f′ = sym (ap₂ (λ (v : Scene) (l : List ℕ). blocksAt v (l ++ b) 0) (x .1) rest) ∙ f in
+    let more = append-bytes (allBlocks s a .rest) b (run-bytes blocks GoodBlock block-lawful (length a) s a ha) hb in
+    let y = replied (allBlocks s a .state) (allBlocks s a .rest ++ b) [] more tt u q f′ in
+    told-all s a b ha hb (x .0)
+    ∙ (λ i. reply (sym (y .1) i) (result (progress-added s a b ha hb i)))
+    ∙ ap₂ (λ (k l : Progress). reply u (result (added k l))) (sym (x .2)) (sym (y .2))
 
 -- ---- a whole recording
 

@@ -5,15 +5,16 @@ use mathlib.Core.Path.{_≡_, refl, sym, ap, _∙_, subst}
 use mathlib.Core.Logic.{_≢_}
 use mathlib.Core.List.{List, [], _∷_, _++_, append-assoc}
 use mathlib.Core.Bool.{Bool, true, false, cond}
-use Prim.Native.Nat.{ℕ, zero, suc, _+_, _≤_}
+use Prim.Native.Nat.{ℕ, zero, suc, _+_, _-_, _≤_}
 use native.Mathlib.Nat.{le-refl}
 use native.Mathlib.Omega.{arith}
 use borrow.Author.Tests.{ne-eqb}
 use lib.Dec.{eqb}
-use lib.ListN.{length}
+use lib.ListN.{length, length-append}
 use Rattle.dem.specs.Bytes.{Bytes, Result, found, refused, mapResult, bind}
 use Rattle.dem.specs.Codec.{Codec, after, Run, stopped, preceded, runOn, runMost, readMost, fillAll, applyAll}
 use Rattle.dem.proofs.ResultLaws.{clash, Ranged}
+use Rattle.dem.proofs.ByteLaws.{append-bytes}
 use Rattle.dem.proofs.CodecLaws.{Lawful, Taken, afterAll, shrinks}
 
 -- A run as the reading of all the bytes.
@@ -125,6 +126,71 @@ module _ {S A B : Type 0} (c : Codec S A B) where
             let r : Ranged {A = A} (b ∷ bs) (refused k left) = subst (λ (q : Result A). Ranged (b ∷ bs) q) e (law .ranged s (b ∷ bs) h) in
             (le-refl (length (b ∷ bs)), r .2)
 
+    -- A bound of the bytes' number or more never decides.
+    pub run-enough : (n m : ℕ) (s : S) (bs : List ℕ) → Bytes bs → length bs ≤ n → length bs ≤ m → runMost c n s bs ≡ runMost c m s bs
+    unfolding runMost
+    run-enough zero zero s bs h i j = refl
+    run-enough zero (suc m) s [] h i j = refl
+    run-enough (suc n) zero s [] h i j = refl
+    run-enough (suc n) (suc m) s [] h i j = refl
+    run-enough zero (suc m) s (b ∷ bs) h i j = let z : ⊥ = omega arith in absurd z
+    run-enough (suc n) zero s (b ∷ bs) h i j = let z : ⊥ = omega arith in absurd z
+    run-enough (suc n) (suc m) s (b ∷ bs) h i j = go (c .read s (b ∷ bs)) refl (λ t rest. run-enough n m t rest)
+      where
+        go : (q : Result A) → c .read s (b ∷ bs) ≡ q
+            → ((t : S) (rest : List ℕ) → Bytes rest → length rest ≤ n → length rest ≤ m → runMost c n t rest ≡ runMost c m t rest)
+            → runOn s (b ∷ bs) q (λ v rest. runMost c n (after c s v) rest) ≡ runOn s (b ∷ bs) q (λ v rest. runMost c m (after c s v) rest)
+        go (refused k left) e ih = refl
+        go (found v rest) e ih =
+            let k = shrinks c Good law s (b ∷ bs) v rest h e in
+            ap (preceded v) (ih (after c s v) rest (law .sound s (b ∷ bs) v rest h e .left) (omega arith) (omega arith))
+
+    pub run-bytes : (n : ℕ) (s : S) (bs : List ℕ) → Bytes bs → Bytes (runMost c n s bs .rest)
+    unfolding runMost
+    run-bytes zero s bs h = h
+    run-bytes (suc n) s [] h = h
+    run-bytes (suc n) s (b ∷ bs) h = go (c .read s (b ∷ bs)) refl (λ t rest. run-bytes n t rest)
+      where
+        go : (q : Result A) → c .read s (b ∷ bs) ≡ q → ((t : S) (rest : List ℕ) → Bytes rest → Bytes (runMost c n t rest .rest))
+            → Bytes (runOn s (b ∷ bs) q (λ v rest. runMost c n (after c s v) rest) .rest)
+        go (refused k left) e ih = h
+        go (found v rest) e ih = ih (after c s v) rest (law .sound s (b ∷ bs) v rest h e .left)
+
+    -- The bytes behind a run's items stand at the end of all bytes.
+    pub run-tiles : (n : ℕ) (s : S) (bs : List ℕ) → Bytes bs → (xs : List ℕ) × (xs ++ runMost c n s bs .rest ≡ bs)
+    unfolding runMost
+    run-tiles zero s bs h = ([], refl)
+    run-tiles (suc n) s [] h = ([], refl)
+    run-tiles (suc n) s (b ∷ bs) h = go (c .read s (b ∷ bs)) refl (λ t rest. run-tiles n t rest)
+      where
+        go : (q : Result A) → c .read s (b ∷ bs) ≡ q
+            → ((t : S) (rest : List ℕ) → Bytes rest → (xs : List ℕ) × (xs ++ runMost c n t rest .rest ≡ rest))
+            → (xs : List ℕ) × (xs ++ runOn s (b ∷ bs) q (λ v rest. runMost c n (after c s v) rest) .rest ≡ b ∷ bs)
+        go (refused k left) e ih = ([], refl)
+        go (found v rest) e ih =
+            let t : Taken c Good s (b ∷ bs) v rest = law .sound s (b ∷ bs) v rest h e in
+            let i = ih (after c s v) rest (t .left) in (
+              c .write s v ++ i .0,
+              append-assoc (c .write s v) (i .0) (runMost c n (after c s v) rest .rest) ∙ ap (λ (l : List ℕ). c .write s v ++ l) (i .1) ∙ t .tiles,
+            )
+
+    -- Each item took a byte or more.
+    pub run-count : (n : ℕ) (s : S) (bs : List ℕ) → Bytes bs → length (runMost c n s bs .items) + length (runMost c n s bs .rest) ≤ length bs
+    unfolding runMost
+    run-count zero s bs h = omega arith
+    run-count (suc n) s [] h = omega arith
+    run-count (suc n) s (b ∷ bs) h = go (c .read s (b ∷ bs)) refl (λ t rest. run-count n t rest)
+      where
+        go : (q : Result A) → c .read s (b ∷ bs) ≡ q
+            → ((t : S) (rest : List ℕ) → Bytes rest → length (runMost c n t rest .items) + length (runMost c n t rest .rest) ≤ length rest)
+            → length (runOn s (b ∷ bs) q (λ v rest. runMost c n (after c s v) rest) .items)
+            + length (runOn s (b ∷ bs) q (λ v rest. runMost c n (after c s v) rest) .rest) ≤ length (b ∷ bs)
+        go (refused k left) e ih = omega arith
+        go (found v rest) e ih =
+            let k = shrinks c Good law s (b ∷ bs) v rest h e in
+            let i = ih (after c s v) rest (law .sound s (b ∷ bs) v rest h e .left) in
+            omega (arith, k, i)
+
     -- ---- in pieces
 
     -- An item that is found is found whatever follows.
@@ -179,3 +245,32 @@ module _ {S A B : Type 0} (c : Codec S A B) where
             ∙ ap (preceded v) (ih (after c s v) rest (law .sound s (b ∷ bs) v rest h e .left) r i)
         go (refused k left) e r i ih =
             ap (λ (q : Result A). runOn s (b ∷ (bs ++ z)) q (λ u y. runMost c n (after c s u) y)) (steady s (b ∷ bs) z k left h e i)
+
+    -- A run of the whole is a run of the first piece, then one of what it left and the second.
+    pub run-joined : (s : S) (bs z : List ℕ) → Bytes bs → Bytes z
+        → runMost c (length (bs ++ z)) s (bs ++ z)
+        ≡ joined (runMost c (length bs) s bs)
+        (runMost c (length (runMost c (length bs) s bs .rest ++ z)) (runMost c (length bs) s bs .state) (runMost c (length bs) s bs .rest ++ z))
+    run-joined s bs z h g =
+        let first : Run S A = runMost c (length bs) s bs in
+        let k = length (bs ++ z) - length (first .items) in
+        let more = append-bytes (first .rest) z (run-bytes (length bs) s bs h) g in
+        let n = run-count (length bs) s bs h in
+        let l = length-append bs z in
+        let m : length (bs ++ z) ≡ length (first .items) + k = omega arith in
+        ap (λ (j : ℕ). runMost c j s (bs ++ z)) m
+        ∙ run-more (length bs) k s bs z h
+        ∙ ap (joined first)
+        (run-enough k (length (first .rest ++ z)) (first .state) (first .rest ++ z) more (omega (arith, length-append (first .rest) z)) (le-refl (length (first .rest ++ z))))
+
+    -- A run of the whole that a refusal stopped which no more bytes can lift is that of the first piece.
+    pub run-stopped : (Lifted : ℕ → Type 0)
+        → ((s : S) (bs z : List ℕ) (n : ℕ) (left : List ℕ) → Bytes bs → c .read s bs ≡ refused n left → (Lifted n → ⊥) → c .read s (bs ++ z) ≡ refused n (left ++ z))
+        → (s : S) (bs z : List ℕ) → Bytes bs → runMost c (length bs) s bs .refusal ≢ 0 → (Lifted (runMost c (length bs) s bs .refusal) → ⊥)
+        → runMost c (length (bs ++ z)) s (bs ++ z) ≡ followed z (runMost c (length bs) s bs)
+    run-stopped Lifted steady s bs z h r i =
+        let l = length-append bs z in
+        let e : runMost c (length (bs ++ z)) s bs ≡ runMost c (length bs) s bs = run-enough (length (bs ++ z)) (length bs) s bs h (omega arith) (le-refl (length bs)) in
+        run-refused Lifted steady (length (bs ++ z)) s bs z h (λ k. r (sym (ap (λ (x : Run S A). x .refusal) e) ∙ k))
+        (λ k. i (subst (λ (x : Run S A). Lifted (x .refusal)) e k))
+        ∙ ap (followed z) e

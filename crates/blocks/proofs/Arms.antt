@@ -1,26 +1,32 @@
--- What each arm of the loop over messages does: a message is read, and the parts of the scene that it names are changed.
+-- What each arm of the loop over messages does: a message is read, the parts of the scene that it names are changed, and its normal
+-- form's bytes are known.
 -- Assumes nothing.
 use mathlib.Core.Path.{_≡_, refl, sym, ap, ap₂, _∙_, subst}
 use mathlib.Core.Logic.{_≢_}
-use mathlib.Core.List.{List, [], _∷_, _++_, map}
+use mathlib.Core.List.{List, [], _∷_, _++_, map, append-nil}
 use mathlib.Core.Bool.{Bool, true, false, not}
-use Prim.Native.Nat.{ℕ, _+_, _<_, _≤_}
+use Prim.Native.Nat.{ℕ, _+_, _-_, _<_, _≤_}
 use native.Mathlib.Omega.{arith}
-use borrow.Author.Tests.{leb-true, le-leb}
+use borrow.Author.Tests.{leb-true, leb-false, le-leb}
 use denote.Enum.Declared.{tagOf}
 use types.Run.{OneOf}
 use mir.Val.{hasKey}
-use lib.Dec.{T}
+use lib.Dec.{T, leb}
 use lib.IntN.{pos}
-use lib.ListN.{length, drop, getD, set, replicate}
+use lib.ListN.{length, take, drop, getD, set, replicate, length-append, length-drop, drop-of-length-le}
+use lib.Seq.{take-append-seam, take-all}
 use Rattle.dem.specs.Kind
 use Rattle.dem.specs.Limits.{entityCount}
 use Rattle.dem.specs.Bytes.{Bytes, found, refused}
-use Rattle.dem.specs.Layout.{Value, number, Layout, parse, tail, put}
+use Rattle.dem.specs.Layout.{Value, number, Layout, parse, print, tail, put}
 use Rattle.dem.specs.Scene.{Scene, Context, contextOf, cleared, baselineAt}
-use Rattle.dem.specs.Message.{isMessage, isUpdate, numberRule, kindLayout, layout, layoutIn, updateLayout, fillUpdate, fillClient, fill, apply}
-use Rattle.dem.specs.Recording.{readMessage}
+use Rattle.dem.specs.Message.{isMessage, isUpdate, numberRule, kindLayout, layout, layoutIn, updateLayout, fillUpdate, fillClient, fill, sendUpdate, sendClient, normal, apply}
+use Rattle.dem.specs.Codec.{normalBytes}
+use Rattle.dem.specs.Recording.{readMessage, writeMessage, messages}
 use Rattle.dem.proofs.ResultLaws.{clash}
+use Rattle.dem.proofs.ByteLaws.{drop-bytes}
+use Rattle.dem.proofs.BlockLaws.{message-lawful}
+use Rattle.normal.specs.Normal.{otherBytes}
 use Rattle.dem.proofs.LayoutLaws.{Allowed}
 use Rattle.dem.proofs.AtLaws.{one-at, parse-good}
 use Rattle.dem.proofs.MessageLaws.{kind-update, fill-update, fill-client}
@@ -50,7 +56,7 @@ use Rattle.effects.proofs.Tables.{update-applied, matched, Tableless, not-among
 use Rattle.reader.proofs.Arms.{update-arm}
 use Rattle.reader.proofs.Numbers.{is-message, rule-good}
 use Rattle.reader.proofs.Readings.{read-allowed, read-number, read-numbered, kind-read, message-parsed, message-ended, message-found, message-refused}
-use Rattle.blocks.proofs.Turns.{Moved}
+use Rattle.blocks.proofs.Turns.{Moved, moved-less}
 
 -- The scene of these parts.
 abbrev pub held : List Baseline → List Record → List Bool → Rest → Scene
@@ -79,6 +85,62 @@ timed x v =
       players = x .players;
     }
 
+-- What stands in front of the bytes from a place on, where they are the end of those from another on.
+copied : (s : List ℕ) (at to : ℕ) (xs : List ℕ) → at < length s → xs ++ drop to s ≡ drop at s → xs ≡ take (to - at) (drop at s)
+copied s at to xs l e = go (leb to (length s)) refl
+  where
+    go : (b : Bool) → leb to (length s) ≡ b → xs ≡ take (to - at) (drop at s)
+    go true q =
+        let n : length xs ≡ to - at = omega (arith, leb-true to (length s) q, ap length e, length-append xs (drop to s), length-drop to s, length-drop at s) in
+        sym (take-append-seam xs (drop to s)) ∙ ap₂ (λ (k : ℕ) (bs : List ℕ). take k bs) n e
+    go false q =
+        let past : length s ≤ to = omega (arith, leb-false to (length s) q) in
+        sym (append-nil xs) ∙ ap (λ (bs : List ℕ). xs ++ bs) (sym (drop-of-length-le s past)) ∙ e
+        ∙ sym (take-all (to - at) (drop at s) (omega (arith, leb-false to (length s) q, length-drop at s)))
+
+-- A message without a mask is its own normal form, and a sound is sent anew.
+pub record Unmasked (m : Sent) : Type 0 where
+  pub client : (d : Clientdata) → m ≡ M.Clientdata d → ⊥
+  pub update : (u : Update) → m ≡ M.Update u → ⊥
+
+other-form : (t : Scene) (s : List ℕ) (at to : ℕ) (m : Sent) → Unmasked m → writeMessage t (valuesOf s m) ≡ take (to - at) (drop at s)
+    → normalBytes messages t (valuesOf s m) ≡ otherBytes (contextOf t) s at to m
+unfolding normal fill writeMessage
+other-form t s at to M.Nop h w = w
+other-form t s at to M.Disconnect h w = w
+other-form t s at to (M.Stat _ _) h w = w
+other-form t s at to (M.Version _) h w = w
+other-form t s at to (M.View _) h w = w
+other-form t s at to (M.Sound v) h w = refl
+other-form t s at to (M.Time _) h w = w
+other-form t s at to (M.Print _) h w = w
+other-form t s at to (M.Stufftext _) h w = w
+other-form t s at to (M.SetAngles _ _ _) h w = w
+other-form t s at to (M.Serverinfo _) h w = w
+other-form t s at to (M.Style _ _) h w = w
+other-form t s at to (M.Name _ _) h w = w
+other-form t s at to (M.Frags _ _) h w = w
+other-form t s at to (M.Clientdata d) h w = absurd (h .client d refl)
+other-form t s at to (M.Stopsound _ _) h w = w
+other-form t s at to (M.Colours _ _) h w = w
+other-form t s at to (M.Particle _) h w = w
+other-form t s at to (M.Damage _ _ _) h w = w
+other-form t s at to (M.Static _ _) h w = w
+other-form t s at to (M.Baseline _ _ _) h w = w
+other-form t s at to (M.Temporary _) h w = w
+other-form t s at to (M.Pause _) h w = w
+other-form t s at to (M.Signon _) h w = w
+other-form t s at to (M.Centerprint _) h w = w
+other-form t s at to M.Killed h w = w
+other-form t s at to M.Secret h w = w
+other-form t s at to (M.StaticSound _ _ _ _) h w = w
+other-form t s at to M.Intermission h w = w
+other-form t s at to (M.Finale _) h w = w
+other-form t s at to (M.Track _ _) h w = w
+other-form t s at to M.Sellscreen h w = w
+other-form t s at to (M.Cutscene _) h w = w
+other-form t s at to (M.Update u) h w = absurd (h .update u refl)
+
 module _ (s : List ℕ) (at : ℕ) (l : at < length s) (b : List Baseline) (e : List Record) (p : List Bool) (x : Rest) where
   pub ended-refused : x .ended ≡ true → readMessage (held b e p x) (drop at s) ≡ refused 11 (drop at s)
   unfolding sceneWith
@@ -96,11 +158,33 @@ module _ (s : List ℕ) (at : ℕ) (l : at < length s) (b : List Baseline) (e : 
       unfolding sceneWith
       parsed-refused z = message-refused (held b e p x) s at going vs c q z
 
-      pub parsed-moved : c .refusal ≡ 0 → (t : Scene) → apply (held b e p x) (fill (held b e p x) vs) ≡ t → Moved s (held b e p x) at t (c .at)
+      pub parsed-moved : c .refusal ≡ 0 → (t : Scene) → apply (held b e p x) (fill (held b e p x) vs) ≡ t
+          → (form : List ℕ) → normalBytes messages (held b e p x) vs ≡ form → Moved s (held b e p x) at t (c .at) form
       unfolding sceneWith
-      parsed-moved z t f = record { values = vs; read = message-found (held b e p x) s at going vs c q z; scene = f }
+      parsed-moved z t f form g = record { values = vs; read = message-found (held b e p x) s at going vs c q z; scene = f; normal = g }
+
+      pub parsed-less : Bytes s → c .refusal ≡ 0 → length s - c .at < length s - at
+      parsed-less h z = moved-less s h (held b e p x) at _ (c .at) _ (parsed-moved z _ refl _ refl)
+
+      -- The bytes that it was read from.
+      pub parsed-bytes : Bytes s → c .refusal ≡ 0 → writeMessage (held b e p x) vs ≡ take (c .at - at) (drop at s)
+      unfolding sceneWith
+      parsed-bytes h z =
+          copied s at (c .at) (writeMessage (held b e p x) vs) l
+          (message-lawful .sound (held b e p x) (drop at s) vs (drop (c .at) s) (drop-bytes at s h) (message-found (held b e p x) s at going vs c q z) .tiles)
 
     -- ---- an update
+
+    -- The bytes of an update of entity i to a record.
+    abbrev pub updateForm : ℕ → Record → List ℕ
+    updateForm i r = print (layoutIn (held b e p x)) (sendUpdate (baselineNumbers (getD b i noBaseline)) (number i ∷ recordValues r))
+
+    update-normal : (i : ℕ) (r : Record) (vs : List Value) → fill (held b e p x) vs ≡ number Kind.update ∷ number i ∷ recordValues r
+        → normalBytes messages (held b e p x) vs ≡ updateForm i r
+    unfolding sceneWith normal writeMessage
+    update-normal i r vs f =
+        ap (λ (m : List Value). print (layoutIn (held b e p x)) (normal (held b e p x) m)) f
+        ∙ ap (λ (y : List ℕ). print (layoutIn (held b e p x)) (sendUpdate y (number i ∷ recordValues r))) (sym (seen-at baselineNumbers b i noBaseline))
 
     module _ (h : Bytes s) (n : ℕ) (en : n ≡ getD s at 0) (large : 128 ≤ n) (u : Update) (c : Cursor)
         (q : gotten s (updateValues u) c ≡ put (number n) (parseAt s (here (at + 1)) (updateLayout n))) where
@@ -130,51 +214,64 @@ module _ (s : List ℕ) (at : ℕ) (l : at < length s) (b : List Baseline) (e : 
         pub update-moved : (r : Record)
             → number Kind.update ∷ number (u .entity .0) ∷ recordValues r
             ≡ fillUpdate (baselineNumbers (getD b (u .entity .0) noBaseline)) (u .number) (tail (updateValues u))
-            → Moved s (held b e p x) at (held b (set e (u .entity .0) r) (set p (u .entity .0) true) x) (c .at)
+            → Moved s (held b e p x) at (held b (set e (u .entity .0) r) (set p (u .entity .0) true) x) (c .at) (updateForm (u .entity .0) r)
         unfolding sceneWith
         update-moved r f =
             let t = held b e p x in
             let i = u .entity .0 in
+            let seen = seen-at baselineNumbers b i noBaseline in
             parsed-moved (updateValues u) c update-parsed z _
             (sym (ap (λ (l : List (List ℕ)). withTables (t .baselines) l (set (t .present) i true) t) (set-seen recordNumbers e i r _ refl)
-            ∙ update-applied t u r (baselineNumbers (getD b i noBaseline)) (leb-true 128 (u .number) numbered) (seen-at baselineNumbers b i noBaseline) f))
+            ∙ update-applied t u r (baselineNumbers (getD b i noBaseline)) (leb-true 128 (u .number) numbered) seen f))
+            _ (update-normal i r (updateValues u)
+            (fill-update t (u .number) (tail (updateValues u)) numbered ∙ ap (λ (y : List ℕ). fillUpdate y (u .number) (tail (updateValues u))) (sym seen) ∙ sym f))
 
     -- An update by its values as sent, its record being filled in already.
     pub quick-moved : (n : ℕ) → n ≡ getD s at 0 → 128 ≤ n → (high i : ℕ) (sent : List Value) (to : ℕ) (r : Record)
         → parse (updateLayout n) (drop (at + 1) s) ≡ found (number high ∷ number i ∷ sent) (drop to s)
         → fillUpdate (baselineNumbers (getD b i noBaseline)) n (number high ∷ number i ∷ sent) ≡ number Kind.update ∷ number i ∷ recordValues r
-        → Moved s (held b e p x) at (held b (set e i r) (set p i true) x) to
+        → Moved s (held b e p x) at (held b (set e i r) (set p i true) x) to (updateForm i r)
     unfolding sceneWith apply layout
     quick-moved n en large high i sent to r q f =
         let t = held b e p x in
         let us : List Value = number high ∷ number i ∷ sent in
         let message : isMessage n ≡ true = is-message n (λ z. omega arith) (λ z. omega arith) (λ y z. omega arith) in
+        let filled : fill t (number n ∷ us) ≡ number Kind.update ∷ number i ∷ recordValues r =
+        fill-update t n us (le-leb 128 n large) ∙ ap (λ (y : List ℕ). fillUpdate y n us) (sym (seen-at baselineNumbers b i noBaseline)) ∙ f in
         record {
           values = number n ∷ us;
           read = message-parsed t s at going (number n ∷ us) (drop to s)
               (parse-good 1 (numberRule (contextOf t)) (kindLayout (contextOf t)) at s n (omega arith) (one-at at s l ∙ sym en) (rule-good (contextOf t) n message (λ z. omega arith))
               ∙ ap (λ (y : Layout). put (number n) (parse y (drop (at + 1) s))) (kind-update (contextOf t) n (le-leb 128 n large))
               ∙ ap (put (number n)) q);
-          scene = ap (apply t) (fill-update t n us (le-leb 128 n large)
-              ∙ ap (λ (y : List ℕ). fillUpdate y n us) (sym (seen-at baselineNumbers b i noBaseline)) ∙ f)
+          scene = ap (apply t) filled
               ∙ sym (ap (λ (l : List (List ℕ)). withTables (t .baselines) l (set (t .present) i true) t) (set-seen recordNumbers e i r _ refl));
+          normal = update-normal i r (number n ∷ us) filled;
         }
 
     -- ---- a time, and clientdata
 
-    pub time-moved : (v : ℕ) (c : Cursor) → gotten s (number 7 ∷ number v ∷ []) c ≡ parseAt s (here at) (layoutIn (held b e p x)) → c .refusal ≡ 0
-        → Moved s (held b e p x) at (held b e (replicate 449 false) (timed x v)) (c .at)
-    unfolding sceneWith apply fill
-    time-moved v c q z = parsed-moved (number 7 ∷ number v ∷ []) c q z _ refl
+    pub time-moved : Bytes s → (v : ℕ) (c : Cursor) → gotten s (number 7 ∷ number v ∷ []) c ≡ parseAt s (here at) (layoutIn (held b e p x)) → c .refusal ≡ 0
+        → Moved s (held b e p x) at (held b e (replicate 449 false) (timed x v)) (c .at) (take (c .at - at) (drop at s))
+    unfolding sceneWith apply fill normal
+    time-moved h v c q z = parsed-moved (number 7 ∷ number v ∷ []) c q z _ refl _ (parsed-bytes (number 7 ∷ number v ∷ []) c q h z)
+
+    -- The bytes of clientdata.
+    abbrev pub clientForm : Client → List ℕ
+    clientForm k = print (layoutIn (held b e p x)) (sendClient (clientValues k))
 
     pub client-moved : (d : Clientdata) (k : Client) (y : Rest) (c : Cursor)
         → gotten s (number 15 ∷ sentClientValues d) c ≡ parseAt s (here at) (layoutIn (held b e p x)) → c .refusal ≡ 0
         → number Kind.clientdata ∷ clientValues k ≡ fillClient (sentClientValues d)
         → ((b e : List (List ℕ)) (p : List Bool) → sceneWith b e p y ≡ apply (sceneWith b e p x) (number Kind.clientdata ∷ clientValues k))
-        → Moved s (held b e p x) at (held b e p y) (c .at)
+        → Moved s (held b e p x) at (held b e p y) (c .at) (clientForm k)
+    unfolding normal writeMessage
     client-moved d k y c q z f g =
+        let filled : fill (held b e p x) (number 15 ∷ sentClientValues d) ≡ number Kind.clientdata ∷ clientValues k =
+        fill-client (held b e p x) (sentClientValues d) ∙ sym f in
         parsed-moved (number 15 ∷ sentClientValues d) c q z _
-        (ap (apply (held b e p x)) (fill-client (held b e p x) (sentClientValues d) ∙ sym f) ∙ sym (g (map baselineNumbers b) (map recordNumbers e) p))
+        (ap (apply (held b e p x)) filled ∙ sym (g (map baselineNumbers b) (map recordNumbers e) p))
+        _ (ap (λ (m : List Value). print (layoutIn (held b e p x)) (normal (held b e p x) m)) filled)
 
     -- ---- another message
 
@@ -191,38 +288,56 @@ module _ (s : List ℕ) (at : ℕ) (l : at < length s) (b : List Baseline) (e : 
             (subst (λ (y : Sent). Allowed (layoutIn (held b e p x)) (valuesOf s y)) f
             (read-allowed s at (layoutIn (held b e p x)) (valuesOf s m) c other-parsed h z) .2 .1)
 
-        pub baseline-moved : (i : Entity) (o : Look) (r : Pose) → m ≡ M.Baseline i o r
-            → Moved s (held b e p x) at (held (set b (i .0) (record { look = o; pose = r })) e p x) (c .at)
-        unfolding sceneWith apply fill
-        baseline-moved i o r f =
-            let t = held b e p x in
-            parsed-moved (valuesOf s m) c other-parsed z _
-            (sym (ap (λ (l : List (List ℕ)). withTables l (t .records) (t .present) t)
-            (set-seen baselineNumbers b (i .0) (record { look = o; pose = r }) _ refl)
-            ∙ matched t (placed s) m (M.Baseline i o r) f))
+        first : (n : ℕ) (us : List Value) → valuesOf s m ≡ number n ∷ us → n ≡ getD s at 0
+        first n us g = read-number s at n k us c l (sym (ap (λ (vs : List Value). gotten s vs c) g) ∙ q) z
 
-        pub serverinfo-moved : (i : Serverinfo) (t : Scene) → m ≡ M.Serverinfo i → t ≡ cleared (i .limit) → Moved s (held b e p x) at t (c .at)
-        unfolding apply fill
-        serverinfo-moved i t f g =
-            parsed-moved (valuesOf s m) c other-parsed z t (sym (g ∙ matched (held b e p x) (placed s) m (M.Serverinfo i) f))
+        -- Of a number that is neither clientdata's nor an update's.
+        module _ (n15 : 15 ≢ getD s at 0) (low : getD s at 0 < 128) where
+          unmasked : Unmasked m
+          unmasked =
+              record {
+                client = λ d g. n15 (first 15 _ (ap (valuesOf s) g));
+                update = λ u g. let w = first (u .number) _ (ap (valuesOf s) g) in omega (arith, leb-true 128 (u .number) (read-numbered s at k m c h q z u g));
+              }
 
-        pub rest-moved : (ks : List ℕ) → OneOf ks (tagOf Messages.the-type m) → T (not (hasKey ks 10)) → T (not (hasKey ks 20))
-            → 7 ≢ getD s at 0 → getD s at 0 < 128 → (y : Rest)
-            → ((b e : List (List ℕ)) (p : List Bool) (t : Text → List ℕ) → Numbered m → sceneWith [] [] [] y ≡ withTables [] [] [] (apply (sceneWith b e p x) (fill (sceneWith b e p x) (valuesBy t m))))
-            → Moved s (held b e p x) at (held b e p y) (c .at)
-        unfolding sceneWith
-        rest-moved ks o n10 n20 n7 low y f =
-            let t = held b e p x in
-            let numbered : Numbered m = read-numbered s at k m c h q z in
-            let first : (n : ℕ) (us : List Value) → valuesOf s m ≡ number n ∷ us → n ≡ getD s at 0 =
-            λ n us g. read-number s at n k us c l (sym (ap (λ (vs : List Value). gotten s vs c) g) ∙ q) z in
-            let kept = tables-kept t (placed s) m
-            (record {
-              time = λ v g. n7 (first 7 _ (ap (valuesOf s) g));
-              serverinfo = λ i. not-among ks m (M.Serverinfo i) o n10;
-              baseline = λ i o′ r. not-among ks m (M.Baseline i o′ r) o n20;
-              update = λ u g. let w = first (u .number) _ (ap (valuesOf s) g) in omega (arith, leb-true 128 (u .number) (numbered u g));
-            }) in
-            parsed-moved (valuesOf s m) c other-parsed z _
-            (sym (rest-joined (apply t (fill t (valuesOf s m))) y (t .baselines) (t .records) (t .present)
-            (f (t .baselines) (t .records) (t .present) (placed s) numbered) (kept .0) (kept .1) (kept .2)))
+          abbrev pub otherForm : List ℕ
+          otherForm = otherBytes (contextOf (held b e p x)) s at (c .at) m
+
+          other-moved : (t : Scene) → apply (held b e p x) (fill (held b e p x) (valuesOf s m)) ≡ t → Moved s (held b e p x) at t (c .at) otherForm
+          other-moved t f =
+              parsed-moved (valuesOf s m) c other-parsed z t f _
+              (other-form (held b e p x) s at (c .at) m unmasked (parsed-bytes (valuesOf s m) c other-parsed h z))
+
+          pub baseline-moved : (i : Entity) (o : Look) (r : Pose) → m ≡ M.Baseline i o r
+              → Moved s (held b e p x) at (held (set b (i .0) (record { look = o; pose = r })) e p x) (c .at) otherForm
+          unfolding sceneWith apply fill
+          baseline-moved i o r f =
+              let t = held b e p x in
+              other-moved _
+              (sym (ap (λ (l : List (List ℕ)). withTables l (t .records) (t .present) t)
+              (set-seen baselineNumbers b (i .0) (record { look = o; pose = r }) _ refl)
+              ∙ matched t (placed s) m (M.Baseline i o r) f))
+
+          pub serverinfo-moved : (i : Serverinfo) (t : Scene) → m ≡ M.Serverinfo i → t ≡ cleared (i .limit) → Moved s (held b e p x) at t (c .at) otherForm
+          unfolding apply fill
+          serverinfo-moved i t f g =
+              other-moved t (sym (g ∙ matched (held b e p x) (placed s) m (M.Serverinfo i) f))
+
+          pub rest-moved : (ks : List ℕ) → OneOf ks (tagOf Messages.the-type m) → T (not (hasKey ks 10)) → T (not (hasKey ks 20))
+              → 7 ≢ getD s at 0 → (y : Rest)
+              → ((b e : List (List ℕ)) (p : List Bool) (t : Text → List ℕ) → Numbered m → sceneWith [] [] [] y ≡ withTables [] [] [] (apply (sceneWith b e p x) (fill (sceneWith b e p x) (valuesBy t m))))
+              → Moved s (held b e p x) at (held b e p y) (c .at) otherForm
+          unfolding sceneWith
+          rest-moved ks o n10 n20 n7 y f =
+              let t = held b e p x in
+              let numbered : Numbered m = read-numbered s at k m c h q z in
+              let kept = tables-kept t (placed s) m
+              (record {
+                time = λ v g. n7 (first 7 _ (ap (valuesOf s) g));
+                serverinfo = λ i. not-among ks m (M.Serverinfo i) o n10;
+                baseline = λ i o′ r. not-among ks m (M.Baseline i o′ r) o n20;
+                update = λ u g. unmasked .update u g;
+              }) in
+              other-moved _
+              (sym (rest-joined (apply t (fill t (valuesOf s m))) y (t .baselines) (t .records) (t .present)
+              (f (t .baselines) (t .records) (t .present) (placed s) numbered) (kept .0) (kept .1) (kept .2)))

@@ -1,15 +1,19 @@
-// Blocks one after the other, in a loop that holds the scene.
+// Blocks one after the other, read and written in normal form in one loop that holds the scene.
 ghost use mathlib.Core.Path.{_≡_};
-ghost use mathlib.Core.List.{List};
-ghost use mathlib.Core.Bool.{Bool, true};
-ghost use Prim.Native.Nat.{ℕ, _≤_};
-ghost use lib.ListN.{length, drop};
+ghost use mathlib.Core.List.{List, [], _∷_, _++_};
+ghost use mathlib.Core.Bool.{Bool, true, cond};
+ghost use Prim.Native.Nat.{ℕ, _+_, _-_, _≤_, _<_};
+ghost use lib.ListN.{length, take, drop};
+ghost use Rattle.dem.specs.Bytes.{leWrite};
+ghost use Rattle.dem.specs.Layout.{number, print};
+ghost use Rattle.dem.specs.Recording.{angleLayout};
 ghost use Rattle.dem.specs.Scene.{contextOf, inRange};
 ghost use Rattle.dem.specs.Codec.{runMost};
 ghost use Rattle.dem.specs.Recording.{blocks as recordingBlocks};
 ghost use Rattle.parts.specs.Kinds.{contextOf as numbersOf};
 ghost use Rattle.scene.specs.Views.{sceneWith, sceneOf};
-ghost use Rattle.blocks.specs.Runs.{refusedIn, toldOf, answered};
+ghost use Rattle.blocks.specs.Runs.{refusedIn, toldOf, answered, stored, put, wroteOf, runOf, wrote};
+use heads::HeadAt;
 use message::Message;
 use parts::Context;
 use scene::Baseline;
@@ -40,35 +44,102 @@ pub fn context(x: Rest) -> Context
     }
 }
 
-// A refusal inside a block.
-fn refused_in(given: Scene, blocks: usize, next: usize, refusal: u8, place: usize) -> BlocksAt
-    ensures { λ r. ⌜ answered r ≡ refusedIn (sceneOf given) blocks next refusal place ⌝ }
+// Also how many bytes were written of them.
+pub struct WrittenAt {
+    pub read: BlocksAt,
+    pub written: usize,
+}
+
+// A refusal inside a block, or of its room.
+fn refused_in(
+    given: Scene,
+    blocks: usize,
+    next: usize,
+    refusal: u8,
+    place: usize,
+    written: usize,
+) -> WrittenAt
+    ensures { λ r. ⌜ answered (r .read) ≡ refusedIn (sceneOf given) blocks next refusal place ⌝ }
+    ensures bytes { λ r. ⌜ r .written ≡ written ⌝ }
 {
-    BlocksAt {
+    let read = BlocksAt {
         scene: given,
         blocks,
         messages: 0,
         next,
         refusal,
         place,
+    };
+    WrittenAt { read, written }
+}
+
+// How many bytes a block with so many bytes of messages has, where it is written.
+fn block_size(on: bool, size: usize) -> usize
+    requires { ⌜ size ≤ 8000 ⌝ }
+    ensures { λ r. ⌜ r ≡ cond on (16 + size) 0 ⌝ }
+{
+    if on { 16 + size } else { 0 }
+}
+
+// A block's head and body into the room, behind what was written from a place on, if it is to be stored.
+fn store_block(
+    on: bool,
+    out: &mut [u8],
+    base: usize,
+    written: usize,
+    h: HeadAt,
+    size: usize,
+    body: &[u8],
+)
+    requires { ⌜ (on ≡ true → base + written + 16 + size ≤ length (now out)) × (size ≤ length (now body)) × (size ≤ 8000) ⌝ }
+    ensures { λ r. ⌜ now (out .exit) ≡ put on (now (out .entry)) (base + written) (leWrite 4 size ++ (print angleLayout (number (h .angle0) ∷ number (h .angle1) ∷ number (h .angle2) ∷ []) ++ take size (now (body .entry)))) ⌝ }
+{
+    if on {
+        normal::put_block(
+            true,
+            out,
+            base + written,
+            size,
+            h.angle0,
+            h.angle1,
+            h.angle2,
+            body,
+        );
     }
 }
 
 // The bytes of the longest update.
 const UPDATE_SIZE: usize = 18;
 
-// The blocks from a place to the end, but at most so many. No copy of the scene is made for a block or a message: its parts are locals.
-pub fn read_blocks(d: &[u8], from: usize, most: usize, given: Scene) -> BlocksAt
-    requires { ⌜ (from ≤ length (now d)) × (inRange (sceneOf given) ≡ true) ⌝ }
-    ensures { λ r. ⌜ answered r ≡ toldOf (sceneOf given) (length (now (d .entry))) 0 0 (runMost recordingBlocks most (sceneOf given) (drop from (now (d .entry)))) ⌝ }
+// The messages of a block, and slack for the fields of one that are not sent.
+const BODY_SIZE: usize = 8064;
+
+// The blocks from a place to the end, but at most so many; and their normal forms, if they are wanted, into at most so much room from a
+// place of it on. Where the lent room is shorter than that, they are only counted. No copy of the scene is made for a block or a
+// message: its parts are locals.
+pub fn write_blocks(
+    d: &[u8],
+    from: usize,
+    most: usize,
+    given: Scene,
+    on: bool,
+    room: usize,
+    out: &mut [u8],
+    base: usize,
+) -> WrittenAt
+    requires { ⌜ (from ≤ length (now d)) × (inRange (sceneOf given) ≡ true) × (base ≤ length (now out)) ⌝ }
+    ensures { λ r. ⌜ wrote r (now (out .exit)) ≡ wroteOf (sceneOf given) (length (now (d .entry))) (stored (now (out .entry)) base room) base 0 0 0 (now (out .entry)) (runOf on most room (sceneOf given) (drop from (now (d .entry)))) ⌝ }
 {
     let mut baselines = given.baselines;
     let mut records = given.records;
     let mut present = given.present;
     let mut rest = given.rest;
+    let mut body = [0u8; BODY_SIZE];
+    let stores = room <= out.len() - base;
     let mut start = from;
     let mut blocks: usize = 0;
     let mut messages: usize = 0;
+    let mut written: usize = 0;
     let mut refusal: u8 = 0;
     while (blocks < most) & (start < d.len()) {
         if rest.ended {
@@ -83,9 +154,10 @@ pub fn read_blocks(d: &[u8], from: usize, most: usize, given: Scene) -> BlocksAt
         let mut at = start + 16;
         let end = at + h.size;
         let s = &d[..end];
+        let mut size: usize = 0;
         while at < s.len() {
             if rest.ended {
-                return refused_in(given, blocks, start, 11, at);
+                return refused_in(given, blocks, start, 11, at, written);
             }
             let k = s[at];
             let c = Cursor {
@@ -104,6 +176,7 @@ pub fn read_blocks(d: &[u8], from: usize, most: usize, given: Scene) -> BlocksAt
                             let to = f.next;
                             if to <= end {
                                 let record = f.record;
+                                size = normal::put_update(on, &mut body, size, i, record, b);
                                 records[i] = record;
                                 present[i] = true;
                                 at = to;
@@ -116,13 +189,14 @@ pub fn read_blocks(d: &[u8], from: usize, most: usize, given: Scene) -> BlocksAt
                     let next = u.cursor;
                     let wrong = next.refusal;
                     if wrong != 0 {
-                        return refused_in(given, blocks, start, wrong, at);
+                        return refused_in(given, blocks, start, wrong, at, written);
                     }
                     let update = u.update;
                     let entity = update.entity;
                     let i = entity.0 as usize;
                     let b = baselines[i];
                     let record = scene::fill_update(update, b);
+                    size = normal::put_update(on, &mut body, size, i, record, b);
                     records[i] = record;
                     present[i] = true;
                     at = next.at;
@@ -132,22 +206,25 @@ pub fn read_blocks(d: &[u8], from: usize, most: usize, given: Scene) -> BlocksAt
                     let next = t.cursor;
                     let wrong = next.refusal;
                     if wrong != 0 {
-                        return refused_in(given, blocks, start, wrong, at);
+                        return refused_in(given, blocks, start, wrong, at, written);
                     }
+                    let to = next.at;
+                    size = normal::put_copy(on, &mut body, size, s, at, to);
                     present = [false; 449];
                     rest.timed = true;
                     rest.time = t.value;
-                    at = next.at;
+                    at = to;
                 }
                 15 => {
                     let t = masked::clientdata_at(s, c);
                     let next = t.cursor;
                     let wrong = next.refusal;
                     if wrong != 0 {
-                        return refused_in(given, blocks, start, wrong, at);
+                        return refused_in(given, blocks, start, wrong, at, written);
                     }
                     let data = t.data;
                     let client = scene::fill_client(data);
+                    size = normal::put_client(on, &mut body, size, client);
                     rest = scene::with_client(rest, client);
                     at = next.at;
                 }
@@ -156,9 +233,11 @@ pub fn read_blocks(d: &[u8], from: usize, most: usize, given: Scene) -> BlocksAt
                     let next = m.cursor;
                     let wrong = next.refusal;
                     if wrong != 0 {
-                        return refused_in(given, blocks, start, wrong, at);
+                        return refused_in(given, blocks, start, wrong, at, written);
                     }
                     let message = m.message;
+                    let to = next.at;
+                    size = normal::put_other(on, &mut body, size, s, at, to, message);
                     match message {
                         Message::Baseline(entity, look, pose) => {
                             let i = entity.0 as usize;
@@ -176,11 +255,17 @@ pub fn read_blocks(d: &[u8], from: usize, most: usize, given: Scene) -> BlocksAt
                             rest = scene::apply_rest(rest, message);
                         }
                     }
-                    at = next.at;
+                    at = to;
                 }
             }
             messages += 1;
         }
+        let n = block_size(on, size);
+        if room - written < n {
+            return refused_in(given, blocks, start, 12, n, written);
+        }
+        store_block(on & stores, out, base, written, h, size, &body);
+        written += n;
         start = end;
         blocks += 1;
     }
@@ -190,12 +275,23 @@ pub fn read_blocks(d: &[u8], from: usize, most: usize, given: Scene) -> BlocksAt
         present,
         rest,
     };
-    BlocksAt {
+    let read = BlocksAt {
         scene,
         blocks,
         messages,
         next: start,
         refusal,
         place: start,
-    }
+    };
+    WrittenAt { read, written }
+}
+
+// The blocks from a place to the end, but at most so many.
+pub fn read_blocks(d: &[u8], from: usize, most: usize, given: Scene) -> BlocksAt
+    requires { ⌜ (from ≤ length (now d)) × (inRange (sceneOf given) ≡ true) ⌝ }
+    ensures { λ r. ⌜ answered r ≡ toldOf (sceneOf given) (length (now (d .entry))) 0 0 (runMost recordingBlocks most (sceneOf given) (drop from (now (d .entry)))) ⌝ }
+{
+    let mut nothing = [0u8; 1];
+    let w = write_blocks(d, from, most, given, false, 0, &mut nothing, 0);
+    w.read
 }

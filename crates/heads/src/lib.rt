@@ -1,14 +1,16 @@
 // The head of a block, and the track line in front of the first.
 ghost use mathlib.Core.Path.{_≡_};
-ghost use mathlib.Core.List.{[], _∷_};
+ghost use mathlib.Core.List.{[], _∷_, _++_};
 ghost use Prim.Native.Nat.{_+_, _-_, _≤_, _<_};
 ghost use lib.Dec.{eqb};
+ghost use lib.IntN.{natAbs};
 ghost use lib.ListN.{length, drop, getD};
+ghost use lib.Seq.{sets};
 ghost use Rattle.dem.specs.Limits.{blockLimit, headSize};
 ghost use Rattle.dem.specs.Bytes.{mapResult};
 ghost use Rattle.dem.specs.Layout.{number};
 ghost use Rattle.dem.specs.Scene.{isFinite};
-ghost use Rattle.dem.specs.Track.{minusSign, readTrack, trackNumber};
+ghost use Rattle.dem.specs.Track.{minusSign, digitZero, readTrack, trackNumber, digitsOf, digitBytes, normalTrack, writeTrack};
 ghost use Rattle.dem.specs.Recording.{angleRule, angleLayout};
 ghost use Rattle.wire.specs.Cursors.{gotten, numberAt, parseAt};
 ghost use Rattle.heads.specs.Heads.{headRefusal, headOf, headIn};
@@ -180,4 +182,83 @@ pub fn read_track(s: &[u8]) -> TrackAt
         at: d.at,
         refusal: d.refusal,
     }
+}
+
+// ---- written
+
+// A number without its sign.
+fn magnitude(number: i16) -> u16
+    ensures { λ r. ⌜ r ≡ natAbs number ⌝ }
+{
+    if number < 0 {
+        (-1 - number) as u16 + 1
+    } else {
+        number as u16
+    }
+}
+
+// How many digits a number below 1,000 has.
+fn digit_count(v: u16) -> usize
+    ensures { λ r. ⌜ r ≡ length (digitsOf v) ⌝ }
+{
+    if v < 10 {
+        1
+    } else if v < 100 {
+        2
+    } else {
+        3
+    }
+}
+
+fn digit(v: u16) -> u8
+    requires { ⌜ v < 10 ⌝ }
+    ensures { λ r. ⌜ r ≡ v + digitZero ⌝ }
+{
+    v as u8 + b'0'
+}
+
+// A number's digits and the line feed, from a place of the room on.
+fn put_digits(room: &mut [u8], at: usize, v: u16) -> usize
+    requires { ⌜ (v < 1000) × (at + length (digitBytes (digitsOf v)) ≤ length (now room)) ⌝ }
+    ensures put { λ r. ⌜ now (room .exit) ≡ sets (now (room .entry)) at (digitBytes (digitsOf v)) ⌝ }
+    ensures next { λ r. ⌜ r ≡ at + length (digitBytes (digitsOf v)) ⌝ }
+{
+    if v < 10 {
+        room[at] = digit(v);
+        room[at + 1] = b'\n';
+        return at + 2;
+    }
+    if v < 100 {
+        room[at] = digit(v / 10);
+        room[at + 1] = digit(v % 10);
+        room[at + 2] = b'\n';
+        return at + 3;
+    }
+    room[at] = digit(v / 100);
+    room[at + 1] = digit(v / 10 % 10);
+    room[at + 2] = digit(v % 10);
+    room[at + 3] = b'\n';
+    at + 4
+}
+
+// How many bytes the normal line of a number has.
+pub fn track_size(number: i16) -> usize
+    ensures { λ r. ⌜ r ≡ length (writeTrack (normalTrack number)) ⌝ }
+{
+    let line = digit_count(magnitude(number)) + 1;
+    if number < 0 { line + 1 } else { line }
+}
+
+// The normal line of a number at the room's front, and how many bytes that is. The rest of the room stays.
+pub fn put_track(room: &mut [u8], number: i16) -> usize
+    requires { ⌜ (natAbs number < 1000) × (length (writeTrack (normalTrack number)) ≤ length (now room)) ⌝ }
+    ensures put { λ r. ⌜ now (room .exit) ≡ writeTrack (normalTrack number) ++ drop (length (writeTrack (normalTrack number))) (now (room .entry)) ⌝ }
+    ensures next { λ r. ⌜ r ≡ length (writeTrack (normalTrack number)) ⌝ }
+{
+    let v = magnitude(number);
+    if number < 0 {
+        room[0] = b'-';
+        return put_digits(room, 1, v);
+    }
+    put_digits(room, 0, v)
 }

@@ -2,18 +2,18 @@
 -- the first place on.
 -- Assumes nothing.
 use mathlib.Core.Path.{_≡_, refl, ap, sym, _∙_}
-use mathlib.Core.List.{List, [], _∷_, _++_}
+use mathlib.Core.List.{List, [], _++_}
 use mathlib.Core.Bool.{Bool, true, false}
 use Prim.Native.Nat.{ℕ, suc, _+_, _-_, _/_, _%_, _≤_, _<_, min}
 use native.Mathlib.Omega.{arith}
-use native.Mathlib.Nat.{zero-add}
 use native.Mathlib.Numerals.{add-one}
 use lib.Dec.{leb}
 use lib.ListN.{length, getD, set, take, drop, length-append, length-take, length-drop}
-use lib.Seq.{sets, sets-eq, length-sets, drop-cons, take-all}
+use lib.Seq.{sets, length-sets, drop-cons, take-all}
 use borrow.Author.Tests.{leb-true, leb-false}
 use Rattle.dem.specs.Bytes.{leWrite}
 use Rattle.dem.proofs.ByteLaws.{le-length}
+use Rattle.dem.proofs.ListLaws.{sets-append}
 use Rattle.wire.specs.Cursors.{textIn}
 use Rattle.pieces.specs.declared.Piece.{Piece}
 use Rattle.pieces.specs.declared.Pieces.{Pieces}
@@ -78,15 +78,6 @@ pub text-length : (t : List ℕ) (start len : ℕ) → length (take len (drop st
 text-length t start len = simp (length-take, length-drop)
 
 -- ---- pieces
-
-sets-append : (s : List ℕ) (at : ℕ) (xs ys : List ℕ) → sets (sets s at xs) (at + length xs) ys ≡ sets s at (xs ++ ys)
-sets-append s at [] ys = ap (λ (n : ℕ). sets s n ys) (omega arith)
-sets-append s at (x ∷ xs) ys =
-    let e : at + suc (length xs) ≡ suc at + length xs = omega arith in
-    rw e (sets-append (set s at x) (suc at) xs ys)
-
-pub sets-front : (s bs : List ℕ) → length bs ≤ length s → sets s 0 bs ≡ bs ++ drop (length bs) s
-sets-front s bs h = sets-eq bs s 0 (omega arith) ∙ ap (λ (n : ℕ). bs ++ drop n s) (zero-add (length bs))
 
 pub piece-size : (t : List ℕ) (p : Piece) → length (pieceBytes t p) ≡ min (p .len) (length t - p .start) + p .width
 piece-size t p = simp (length-append, length-take, length-drop, le-length)

@@ -453,7 +453,7 @@ fn text_size(whole: usize, start: usize, len: usize) -> usize
 }
 
 // A text's bytes from a place of the room on.
-fn put_text(room: &mut [u8], at: usize, text: &[u8], start: usize, len: usize) -> usize
+pub fn put_text(room: &mut [u8], at: usize, text: &[u8], start: usize, len: usize) -> usize
     requires { ⌜ at + length (take len (drop start (now text))) ≤ length (now room) ⌝ }
     ensures put { λ r. ⌜ now (room .exit) ≡ sets (now (room .entry)) at (take len (drop start (now (text .entry)))) ⌝ }
     ensures next { λ r. ⌜ r ≡ at + length (take len (drop start (now (text .entry)))) ⌝ }
@@ -468,7 +468,7 @@ fn put_text(room: &mut [u8], at: usize, text: &[u8], start: usize, len: usize) -
 }
 
 // A number's bytes, little end first.
-fn put_number(room: &mut [u8], at: usize, width: usize, value: u32) -> usize
+pub fn put_number(room: &mut [u8], at: usize, width: usize, value: u32) -> usize
     requires { ⌜ at + width ≤ length (now room) ⌝ }
     ensures put { λ r. ⌜ now (room .exit) ≡ sets (now (room .entry)) at (leWrite width value) ⌝ }
     ensures next { λ r. ⌜ r ≡ at + width ⌝ }

@@ -1,0 +1,5 @@
+pub mod PutLaws
+pub mod UpdateBytes
+pub mod ClientBytes
+pub mod SoundBytes
+pub mod BlockBytes

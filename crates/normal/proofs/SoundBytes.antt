@@ -1,0 +1,132 @@
+-- The bytes of a sound in normal form: number and mask, the fields that differ, then its place. No other message is a sound.
+-- Assumes nothing.
+use mathlib.Core.Path.{_≡_, refl, sym, ap, _∙_}
+use mathlib.Core.List.{List, [], _∷_, _++_}
+use mathlib.Core.Option.{Option, none}
+use Prim.Native.Nat.{ℕ, _+_, _-_, _*_, _%_}
+use native.Mathlib.Omega.{arith}
+use lib.ListN.{take, drop}
+use denote.Enum.Declared.{tagOf}
+use types.Run.{OneOf, miss}
+use Rattle.dem.specs.Kind
+use Rattle.dem.specs.Bytes.{leWrite, bit, fromBits}
+use Rattle.dem.specs.Layout.{Value, number, Layout, done, print, tail}
+use Rattle.dem.specs.Masked.{Mask, normalMask, sendSlots}
+use Rattle.dem.specs.Scene.{Context}
+use Rattle.dem.specs.Message.{layout, kindLayout, row, soundSlots, soundTail, fillSound, sendSound}
+use Rattle.dem.proofs.ByteLaws.{bit-from}
+use Rattle.dem.proofs.MaskedLaws.{Chosen, Agree, behind, agree-below, agree-layout}
+use Rattle.message.proofs.Message as Messages
+use Rattle.message.specs.declared.Message.{Message}
+use Rattle.message.specs.declared.Message.the-variants as M
+use Rattle.message.specs.declared.Sound.{Sound}
+use Rattle.message.specs.Values.{soundValues}
+use Rattle.scene.specs.Views.{filledSoundValues}
+use Rattle.scene.specs.declared.FilledSound.{FilledSound}
+use Rattle.normal.specs.Put.{Put}
+use Rattle.normal.specs.Sent.{sentBytes}
+use Rattle.normal.specs.Normal.{vectorBytes, placeBytes, soundOf, soundBytes, otherBytes}
+use Rattle.normal.proofs.PutLaws.{put-same, put-then, second-byte}
+use Rattle.normal.proofs.UpdateBytes.{slot-bytes}
+
+-- Channel and entity in 16 bits, then the sound and its origin.
+pub place-put : (s : FilledSound) (a b c d : List ℕ) (p q r t : ℕ) → Put a b p q (leWrite 2 ((s .entity .0 * 8 + s .channel) % 65536))
+    → Put b c q r (leWrite 1 (s .sound)) → Put c d r t (vectorBytes (s .origin)) → Put a d p t (placeBytes s)
+place-put s a b c d p q r t f g h =
+    let n = s .entity .0 * 8 + s .channel in
+    let later = leWrite 1 (s .sound) ++ vectorBytes (s .origin) in
+    let e0 : n % 65536 % 256 ≡ n % 256 = omega arith in
+    let e1 = second-byte n in
+    let same : leWrite 2 (n % 65536) ++ later ≡ placeBytes s = λ i. e0 i ∷ e1 i ∷ later in
+    put-same a d p t (leWrite 2 (n % 65536) ++ later) (placeBytes s) same
+    (put-then a b d p q t (leWrite 2 (n % 65536)) later f (put-then b c d q r t (leWrite 1 (s .sound)) (vectorBytes (s .origin)) g h))
+
+module _ (s : FilledSound) where
+  abbrev fields : List Value
+  fields = filledSoundValues s
+
+  mask : Mask
+  mask = normalMask soundSlots fields
+
+  chosen : Chosen soundSlots mask fields
+  unfolding mask
+  chosen = (refl, (refl, tt))
+
+  agrees : Agree soundSlots (bit (fromBits 8 mask)) mask
+  agrees = agree-below 8 soundSlots (bit (fromBits 8 mask)) mask refl (λ k l. bit-from 8 mask k l)
+
+  place-printed : (x : Context) → placeBytes s ≡ print (row x soundTail done) (behind soundSlots fields)
+  unfolding print
+  place-printed x = refl
+
+  whole : (x : Context) → leWrite 1 6 ++ (leWrite 1 (fromBits 8 mask) ++ (sentBytes soundSlots fields ++ placeBytes s))
+      ≡ print (layout x) (sendSound fields)
+  unfolding layout kindLayout print mask
+  whole x =
+      let k = row x soundTail done in
+      ap (λ (l : List ℕ). leWrite 1 6 ++ (leWrite 1 (fromBits 8 mask) ++ l))
+      (ap (λ (l : List ℕ). sentBytes soundSlots fields ++ l) (place-printed x)
+      ∙ sym (ap (λ (l : Layout). print l (sendSlots soundSlots mask fields)) (agree-layout soundSlots (bit (fromBits 8 mask)) mask k agrees)
+      ∙ slot-bytes soundSlots mask k fields chosen))
+
+  pub sound-put : (n : ℕ) → n ≡ fromBits 8 (normalMask soundSlots fields) → (a b c d e : List ℕ) (i j k l m : ℕ) → Put a b i j (leWrite 1 6)
+      → Put b c j k (leWrite 1 n) → Put c d k l (sentBytes soundSlots fields) → Put d e l m (placeBytes s)
+      → (x : Context) → Put a e i m (print (layout x) (sendSound fields))
+  unfolding mask
+  sound-put n en a b c d e i j k l m f g h o x =
+      let later = sentBytes soundSlots fields ++ placeBytes s in
+      put-same a e i m (leWrite 1 6 ++ (leWrite 1 n ++ later)) (print (layout x) (sendSound fields))
+      (ap (λ (n : ℕ). leWrite 1 6 ++ (leWrite 1 n ++ later)) en ∙ whole x)
+      (put-then a b e i j m (leWrite 1 6) (leWrite 1 n ++ later) f
+      (put-then b c e j k m (leWrite 1 n) later g (put-then c d e k l m (sentBytes soundSlots fields) (placeBytes s) h o)))
+
+-- ---- which message is a sound
+
+-- The messages that are none, by their place in the list of messages.
+abbrev pub others : List ℕ
+others = 0 ∷ 1 ∷ 2 ∷ 3 ∷ 4 ∷ 6 ∷ 7 ∷ 8 ∷ 9 ∷ 10 ∷ 11 ∷ 12 ∷ 13 ∷ 14 ∷ 15 ∷ 16 ∷ 17 ∷ 18 ∷ 19 ∷ 20 ∷ 21 ∷ 22 ∷ 23 ∷ 24 ∷ 25 ∷ 26 ∷ 27 ∷ 28 ∷ 29 ∷ 30 ∷ 31 ∷ 32 ∷ 33 ∷ []
+
+pub not-sound : (m : Message) → OneOf others (tagOf Messages.the-type m) → soundOf m ≡ none
+not-sound M.Nop h = refl
+not-sound M.Disconnect h = refl
+not-sound (M.Stat _ _) h = refl
+not-sound (M.Version _) h = refl
+not-sound (M.View _) h = refl
+not-sound (M.Sound _) h = absurd (miss others 5 tt h)
+not-sound (M.Time _) h = refl
+not-sound (M.Print _) h = refl
+not-sound (M.Stufftext _) h = refl
+not-sound (M.SetAngles _ _ _) h = refl
+not-sound (M.Serverinfo _) h = refl
+not-sound (M.Style _ _) h = refl
+not-sound (M.Name _ _) h = refl
+not-sound (M.Frags _ _) h = refl
+not-sound (M.Clientdata _) h = refl
+not-sound (M.Stopsound _ _) h = refl
+not-sound (M.Colours _ _) h = refl
+not-sound (M.Particle _) h = refl
+not-sound (M.Damage _ _ _) h = refl
+not-sound (M.Static _ _) h = refl
+not-sound (M.Baseline _ _ _) h = refl
+not-sound (M.Temporary _) h = refl
+not-sound (M.Pause _) h = refl
+not-sound (M.Signon _) h = refl
+not-sound (M.Centerprint _) h = refl
+not-sound M.Killed h = refl
+not-sound M.Secret h = refl
+not-sound (M.StaticSound _ _ _ _) h = refl
+not-sound M.Intermission h = refl
+not-sound (M.Finale _) h = refl
+not-sound (M.Track _ _) h = refl
+not-sound M.Sellscreen h = refl
+not-sound (M.Cutscene _) h = refl
+not-sound (M.Update _) h = refl
+
+module _ (x : Context) (s : List ℕ) (from to : ℕ) (m : Message) where
+  pub other-sound : (v : Sound) (f : FilledSound) → m ≡ M.Sound v → number Kind.sound ∷ filledSoundValues f ≡ fillSound (soundValues v)
+      → print (layout x) (sendSound (filledSoundValues f)) ≡ otherBytes x s from to m
+  other-sound v f e h =
+      ap (λ (vs : List Value). print (layout x) (sendSound (tail vs))) h ∙ ap (λ (n : Message). otherBytes x s from to n) (sym e)
+
+  pub other-copied : soundOf m ≡ none → take (to - from) (drop from s) ≡ otherBytes x s from to m
+  other-copied e = ap (λ (o : Option Sound). soundBytes x (take (to - from) (drop from s)) o) (sym e)

@@ -1,0 +1,4 @@
+pub mod Put
+pub mod Sent
+pub mod Client
+pub mod Normal

@@ -1,0 +1,446 @@
+// Writers that put the normal form of one message into a scratch array. There is room behind the place, so a byte is stored always,
+// and the place moves on only where it is sent: no field needs a branch of its own.
+ghost use mathlib.Core.Path.{_≡_};
+ghost use mathlib.Core.List.{List, [], _∷_, _++_};
+ghost use mathlib.Core.Bool.{Bool, true, cond};
+ghost use Prim.Native.Nat.{ℕ, _+_, _-_, _*_, _^_, _≤_, _<_};
+ghost use lib.ListN.{length, take, drop};
+ghost use lib.Seq.{sets};
+ghost use Rattle.dem.specs.Bytes.{leWrite, bitOf, fromBits};
+ghost use Rattle.dem.specs.Layout.{Value, number, print};
+ghost use Rattle.dem.specs.Scene.{Context};
+ghost use Rattle.dem.specs.Message.{layout, highByte, updateNumber, updateSlots, sendUpdate, clientSlots, clientMask, sendClient, sendSound};
+ghost use Rattle.dem.specs.Recording.{angleLayout};
+ghost use Rattle.message.specs.Values.{lookValues, armsValues};
+ghost use Rattle.scene.specs.Views.{baselineNumbers, recordValues, clientValues, filledSoundValues};
+ghost use Rattle.normal.specs.Put.{Put};
+ghost use Rattle.normal.specs.Sent.{sentBytes, defaults, bitsOf, bitsValues, fieldValues, lookSlots, poseSlots, updateBits, headBytes};
+ghost use Rattle.normal.specs.Client.{motionBits, motionBitsValues, fourSlots, clientFields, countsBytes, suppliesBytes};
+ghost use Rattle.normal.specs.Normal.{vectorBytes, placeBytes, otherBytes};
+use message::Arms;
+use message::Look;
+use message::Message;
+use message::Motion;
+use message::Pose;
+use message::Supplies;
+use message::Vector;
+use scene::Baseline;
+use scene::Client;
+use scene::FilledSound;
+use scene::Record;
+
+// ---- one field
+
+fn put_byte_if(out: &mut [u8], at: usize, sent: bool, v: u8) -> usize
+    requires { ⌜ at < length (now out) ⌝ }
+    ensures { λ q. ⌜ Put (now (out .entry)) (now (out .exit)) at q (cond sent (leWrite 1 v) []) ⌝ }
+    ensures near { λ q. ⌜ q ≤ at + 1 ⌝ }
+{
+    out[at] = v;
+    if sent {
+        return at + 1;
+    }
+    at
+}
+
+fn put_short_if(out: &mut [u8], at: usize, sent: bool, v: u16) -> usize
+    requires { ⌜ at + 1 < length (now out) ⌝ }
+    ensures { λ q. ⌜ Put (now (out .entry)) (now (out .exit)) at q (cond sent (leWrite 2 v) []) ⌝ }
+    ensures near { λ q. ⌜ q ≤ at + 2 ⌝ }
+{
+    out[at] = (v % 256) as u8;
+    out[at + 1] = (v / 256) as u8;
+    if sent {
+        return at + 2;
+    }
+    at
+}
+
+// ---- an update's fields
+
+// A pose's numbers by their bits.
+struct PoseBits {
+    x: u16,
+    angle0: u8,
+    y: u16,
+    angle1: u8,
+    z: u16,
+    angle2: u8,
+}
+
+fn pose_bits(p: Pose) -> PoseBits
+    ensures { λ r. ⌜ r ≡ bitsOf p ⌝ }
+{
+    let x = pieces::unsigned16(p.x);
+    let angle0 = pieces::unsigned8(p.angle0);
+    let y = pieces::unsigned16(p.y);
+    let angle1 = pieces::unsigned8(p.angle1);
+    let z = pieces::unsigned16(p.z);
+    let angle2 = pieces::unsigned8(p.angle2);
+    PoseBits {
+        x,
+        angle0,
+        y,
+        angle1,
+        z,
+        angle2,
+    }
+}
+
+fn put_look(out: &mut [u8], at: usize, l: Look, l0: Look) -> usize
+    requires { ⌜ at + 4 ≤ length (now out) ⌝ }
+    ensures { λ q. ⌜ Put (now (out .entry)) (now (out .exit)) at q (sentBytes (lookSlots l0) (lookValues l)) ⌝ }
+    ensures near { λ q. ⌜ q ≤ at + 4 ⌝ }
+{
+    let a = put_byte_if(out, at, l.model != l0.model, l.model);
+    let b = put_byte_if(out, a, l.frame != l0.frame, l.frame);
+    let c = put_byte_if(out, b, l.colormap != l0.colormap, l.colormap);
+    put_byte_if(out, c, l.skin != l0.skin, l.skin)
+}
+
+fn put_pose(out: &mut [u8], at: usize, p: PoseBits, p0: PoseBits) -> usize
+    requires { ⌜ at + 9 ≤ length (now out) ⌝ }
+    ensures { λ q. ⌜ Put (now (out .entry)) (now (out .exit)) at q (sentBytes (poseSlots p0) (bitsValues p)) ⌝ }
+{
+    let a = put_short_if(out, at, p.x != p0.x, p.x);
+    let b = put_byte_if(out, a, p.angle0 != p0.angle0, p.angle0);
+    let c = put_short_if(out, b, p.y != p0.y, p.y);
+    let d = put_byte_if(out, c, p.angle1 != p0.angle1, p.angle1);
+    let e = put_short_if(out, d, p.z != p0.z, p.z);
+    put_byte_if(out, e, p.angle2 != p0.angle2, p.angle2)
+}
+
+// ---- an update's mask
+
+// Four bits of a mask, the lowest first.
+fn four_bits(a: bool, b: bool, c: bool, d: bool) -> u8
+    ensures { λ r. ⌜ r ≡ bitOf a + bitOf b * 2 + bitOf c * 4 + bitOf d * 8 ⌝ }
+    ensures small { λ r. ⌜ r < 16 ⌝ }
+{
+    (a as u8) + (b as u8) * 2 + (c as u8) * 4 + (d as u8) * 8
+}
+
+fn high_byte(entity: usize, l: Look, effects: u8, p: PoseBits, l0: Look, p0: PoseBits) -> u8
+    ensures { λ r. ⌜ ((bit5 : Bool) → r ≡ highByte (updateBits entity bit5 l effects p l0 p0)) ⌝ }
+{
+    let a = four_bits(
+        p.angle0 != p0.angle0,
+        p.angle2 != p0.angle2,
+        l.model != l0.model,
+        l.colormap != l0.colormap,
+    );
+    let b = four_bits(l.skin != l0.skin, effects != 0, 256 <= entity, false);
+    a + b * 16
+}
+
+fn low_byte(high: u8, bit5: bool, l: Look, p: PoseBits, l0: Look, p0: PoseBits) -> u8
+    ensures { λ r. ⌜ ((e effects : ℕ) → high ≡ highByte (updateBits e bit5 l effects p l0 p0) → r ≡ updateNumber (updateBits e bit5 l effects p l0 p0)) ⌝ }
+{
+    let a = four_bits(high != 0, p.x != p0.x, p.y != p0.y, p.z != p0.z);
+    let b = four_bits(p.angle1 != p0.angle1, bit5, l.frame != l0.frame, true);
+    a + b * 16
+}
+
+// ---- an update
+
+fn put_head(out: &mut [u8], at: usize, n: u8, high: u8, entity: usize) -> usize
+    requires { ⌜ at + 4 ≤ length (now out) ⌝ }
+    ensures { λ q. ⌜ Put (now (out .entry)) (now (out .exit)) at q (headBytes n high entity) ⌝ }
+    ensures near { λ q. ⌜ q ≤ at + 4 ⌝ }
+{
+    let a = put_byte_if(out, at, true, n);
+    let b = put_byte_if(out, a, high != 0, high);
+    let c = put_byte_if(out, b, true, (entity % 256) as u8);
+    put_byte_if(out, c, 256 <= entity, (entity / 256 % 256) as u8)
+}
+
+fn put_fields(
+    out: &mut [u8],
+    at: usize,
+    l: Look,
+    effects: u8,
+    p: PoseBits,
+    l0: Look,
+    p0: PoseBits,
+) -> usize
+    requires { ⌜ at + 14 ≤ length (now out) ⌝ }
+    ensures { λ q. ⌜ Put (now (out .entry)) (now (out .exit)) at q (sentBytes (updateSlots (defaults l0 p0)) (fieldValues l effects p)) ⌝ }
+{
+    let a = put_look(out, at, l, l0);
+    let b = put_byte_if(out, a, effects != 0, effects);
+    put_pose(out, b, p, p0)
+}
+
+// An update of the entity to this record, whose baseline is given.
+pub fn put_update(
+    on: bool,
+    out: &mut [u8],
+    at: usize,
+    entity: usize,
+    r: Record,
+    b: Baseline,
+) -> usize
+    requires { ⌜ at + 24 ≤ length (now out) ⌝ }
+    ensures { λ q. ⌜ ((x : Context) → Put (now (out .entry)) (now (out .exit)) at q (cond on (print (layout x) (sendUpdate (baselineNumbers b) (number entity ∷ recordValues r))) [])) ⌝ }
+{
+    if !on {
+        return at;
+    }
+    let l = r.look;
+    let l0 = b.look;
+    let p = pose_bits(r.pose);
+    let p0 = pose_bits(b.pose);
+    let high = high_byte(entity, l, r.effects, p, l0, p0);
+    let n = low_byte(high, r.bit5, l, p, l0, p0);
+    let q = put_head(out, at, n, high, entity);
+    put_fields(out, q, l, r.effects, p, l0, p0)
+}
+
+// ---- clientdata
+
+// A motion's numbers by their bits.
+struct MotionBits {
+    view_height: u8,
+    pitch: u8,
+    punch0: u8,
+    velocity0: u8,
+    punch1: u8,
+    velocity1: u8,
+    punch2: u8,
+    velocity2: u8,
+}
+
+fn motion_bits(m: Motion) -> MotionBits
+    ensures { λ r. ⌜ r ≡ motionBits m ⌝ }
+{
+    let view_height = pieces::unsigned8(m.view_height);
+    let pitch = pieces::unsigned8(m.pitch);
+    let punch0 = pieces::unsigned8(m.punch0);
+    let velocity0 = pieces::unsigned8(m.velocity0);
+    let punch1 = pieces::unsigned8(m.punch1);
+    let velocity1 = pieces::unsigned8(m.velocity1);
+    let punch2 = pieces::unsigned8(m.punch2);
+    let velocity2 = pieces::unsigned8(m.velocity2);
+    MotionBits {
+        view_height,
+        pitch,
+        punch0,
+        velocity0,
+        punch1,
+        velocity1,
+        punch2,
+        velocity2,
+    }
+}
+
+// Bit 9 is set always.
+fn client_mask(ground: bool, water: bool, m: MotionBits, w: Arms) -> u16
+    ensures { λ r. ⌜ ((items : ℕ) (vs : List Value) → r ≡ fromBits 16 (clientMask ground water (clientFields m items w vs))) ⌝ }
+{
+    let a = four_bits(
+        m.view_height != 22,
+        m.pitch != 0,
+        m.punch0 != 0,
+        m.punch1 != 0,
+    );
+    let b = four_bits(
+        m.punch2 != 0,
+        m.velocity0 != 0,
+        m.velocity1 != 0,
+        m.velocity2 != 0,
+    );
+    let c = four_bits(false, true, ground, water);
+    let d = four_bits(
+        w.weapon_frame != 0,
+        w.armour != 0,
+        w.weapon_model != 0,
+        false,
+    );
+    (a as u16) + (b as u16) * 16 + (c as u16) * 256 + (d as u16) * 4096
+}
+
+// Four bytes, each sent where it is not 0; the first where it is not the one beside it.
+fn put_four(out: &mut [u8], at: usize, a: u8, a0: u8, b: u8, c: u8, d: u8) -> usize
+    requires { ⌜ at + 4 ≤ length (now out) ⌝ }
+    ensures { λ q. ⌜ Put (now (out .entry)) (now (out .exit)) at q (sentBytes (fourSlots a0) (number a ∷ number b ∷ number c ∷ number d ∷ [])) ⌝ }
+    ensures near { λ q. ⌜ q ≤ at + 4 ⌝ }
+{
+    let e = put_byte_if(out, at, a != a0, a);
+    let f = put_byte_if(out, e, b != 0, b);
+    let g = put_byte_if(out, f, c != 0, c);
+    put_byte_if(out, g, d != 0, d)
+}
+
+fn put_motion(out: &mut [u8], at: usize, m: MotionBits) -> usize
+    requires { ⌜ at + 8 ≤ length (now out) ⌝ }
+    ensures { λ q. ⌜ Put (now (out .entry)) (now (out .exit)) at q (sentBytes (take 8 clientSlots) (motionBitsValues m)) ⌝ }
+    ensures near { λ q. ⌜ q ≤ at + 8 ⌝ }
+{
+    let q = put_four(out, at, m.view_height, 22, m.pitch, m.punch0, m.velocity0);
+    put_four(out, q, m.punch1, 0, m.velocity1, m.punch2, m.velocity2)
+}
+
+fn put_long(out: &mut [u8], at: usize, v: u32) -> usize
+    requires { ⌜ at + 4 ≤ length (now out) ⌝ }
+    ensures { λ q. ⌜ Put (now (out .entry)) (now (out .exit)) at q (leWrite 4 v) ⌝ }
+    ensures near { λ q. ⌜ q ≤ at + 4 ⌝ }
+{
+    let q = put_short_if(out, at, true, (v % 65536) as u16);
+    put_short_if(out, q, true, (v / 65536) as u16)
+}
+
+fn put_arms(out: &mut [u8], at: usize, w: Arms) -> usize
+    requires { ⌜ at + 3 ≤ length (now out) ⌝ }
+    ensures { λ q. ⌜ Put (now (out .entry)) (now (out .exit)) at q (sentBytes (drop 9 clientSlots) (armsValues w)) ⌝ }
+    ensures near { λ q. ⌜ q ≤ at + 3 ⌝ }
+{
+    let a = put_byte_if(out, at, w.weapon_frame != 0, w.weapon_frame);
+    let b = put_byte_if(out, a, w.armour != 0, w.armour);
+    put_byte_if(out, b, w.weapon_model != 0, w.weapon_model)
+}
+
+fn put_counts(out: &mut [u8], at: usize, s: Supplies) -> usize
+    requires { ⌜ at + 6 ≤ length (now out) ⌝ }
+    ensures { λ q. ⌜ Put (now (out .entry)) (now (out .exit)) at q (countsBytes s) ⌝ }
+{
+    let a = put_byte_if(out, at, true, s.ammo);
+    let b = put_byte_if(out, a, true, s.count0);
+    let c = put_byte_if(out, b, true, s.count1);
+    let d = put_byte_if(out, c, true, s.count2);
+    let e = put_byte_if(out, d, true, s.count3);
+    put_byte_if(out, e, true, s.weapon)
+}
+
+fn put_supplies(out: &mut [u8], at: usize, s: Supplies) -> usize
+    requires { ⌜ at + 8 ≤ length (now out) ⌝ }
+    ensures { λ q. ⌜ Put (now (out .entry)) (now (out .exit)) at q (suppliesBytes s) ⌝ }
+{
+    let q = put_short_if(out, at, true, pieces::unsigned16(s.health));
+    put_counts(out, q, s)
+}
+
+fn put_states(out: &mut [u8], at: usize, m: MotionBits, items: u32, w: Arms, s: Supplies) -> usize
+    requires { ⌜ at + 24 ≤ length (now out) ⌝ }
+    ensures { λ q. ⌜ Put (now (out .entry)) (now (out .exit)) at q (sentBytes clientSlots (clientFields m items w []) ++ suppliesBytes s) ⌝ }
+{
+    let a = put_motion(out, at, m);
+    let b = put_long(out, a, items);
+    let c = put_arms(out, b, w);
+    put_supplies(out, c, s)
+}
+
+pub fn put_client(on: bool, out: &mut [u8], at: usize, c: Client) -> usize
+    requires { ⌜ at + 32 ≤ length (now out) ⌝ }
+    ensures { λ q. ⌜ ((x : Context) → Put (now (out .entry)) (now (out .exit)) at q (cond on (print (layout x) (sendClient (clientValues c))) [])) ⌝ }
+{
+    if !on {
+        return at;
+    }
+    let w = c.arms;
+    let s = c.supplies;
+    let m = motion_bits(c.motion);
+    let items = pieces::unsigned32(c.items);
+    let mask = client_mask(c.ground, c.water, m, w);
+    let a = put_byte_if(out, at, true, 15);
+    let b = put_short_if(out, a, true, mask);
+    put_states(out, b, m, items, w, s)
+}
+
+// ---- sound
+
+fn put_vector(out: &mut [u8], at: usize, v: Vector) -> usize
+    requires { ⌜ at + 6 ≤ length (now out) ⌝ }
+    ensures { λ q. ⌜ Put (now (out .entry)) (now (out .exit)) at q (vectorBytes v) ⌝ }
+{
+    let x = pieces::unsigned16(v.x);
+    let y = pieces::unsigned16(v.y);
+    let z = pieces::unsigned16(v.z);
+    let a = put_short_if(out, at, true, x);
+    let b = put_short_if(out, a, true, y);
+    put_short_if(out, b, true, z)
+}
+
+// Channel and entity, sound, origin.
+fn put_place(out: &mut [u8], at: usize, s: FilledSound) -> usize
+    requires { ⌜ at + 9 ≤ length (now out) ⌝ }
+    ensures { λ q. ⌜ Put (now (out .entry)) (now (out .exit)) at q (placeBytes s) ⌝ }
+{
+    let e = s.entity;
+    let v = s.origin;
+    let both = ((e.0 as u32) * 8 + (s.channel as u32)) % 65536;
+    let a = put_short_if(out, at, true, both as u16);
+    let b = put_byte_if(out, a, true, s.sound);
+    put_vector(out, b, v)
+}
+
+fn put_sound(out: &mut [u8], at: usize, s: FilledSound) -> usize
+    requires { ⌜ at + 16 ≤ length (now out) ⌝ }
+    ensures { λ q. ⌜ ((x : Context) → Put (now (out .entry)) (now (out .exit)) at q (print (layout x) (sendSound (filledSoundValues s)))) ⌝ }
+{
+    let mask = four_bits(s.volume != 255, s.attenuation != 64, false, false);
+    let a = put_byte_if(out, at, true, 6);
+    let b = put_byte_if(out, a, true, mask);
+    let c = put_byte_if(out, b, s.volume != 255, s.volume);
+    let d = put_byte_if(out, c, s.attenuation != 64, s.attenuation);
+    put_place(out, d, s)
+}
+
+// ---- other messages
+
+// The bytes as they were read.
+pub fn put_copy(on: bool, out: &mut [u8], at: usize, s: &[u8], from: usize, to: usize) -> usize
+    requires { ⌜ (from ≤ to) × (at + length (take (to - from) (drop from (now s))) ≤ length (now out)) ⌝ }
+    ensures { λ q. ⌜ Put (now (out .entry)) (now (out .exit)) at q (cond on (take (to - from) (drop from (now (s .entry)))) []) ⌝ }
+{
+    if !on {
+        return at;
+    }
+    pieces::put_text(out, at, s, from, to - from)
+}
+
+// A sound anew, every other message as it was read.
+pub fn put_other(
+    on: bool,
+    out: &mut [u8],
+    at: usize,
+    s: &[u8],
+    from: usize,
+    to: usize,
+    m: Message,
+) -> usize
+    requires { ⌜ (from ≤ to) × (at + length (take (to - from) (drop from (now s))) ≤ length (now out)) × (at + 16 ≤ length (now out)) ⌝ }
+    ensures { λ q. ⌜ ((x : Context) → Put (now (out .entry)) (now (out .exit)) at q (cond on (otherBytes x (now (s .entry)) from to m) [])) ⌝ }
+{
+    if !on {
+        return at;
+    }
+    match m {
+        Message::Sound(v) => put_sound(out, at, scene::fill_sound(v)),
+        _ => put_copy(true, out, at, s, from, to),
+    }
+}
+
+// ---- a block
+
+// A block's head, then the first `size` bytes of the body; into lent room, of which every byte is promised.
+pub fn put_block(
+    on: bool,
+    room: &mut [u8],
+    at: usize,
+    size: usize,
+    angle0: u32,
+    angle1: u32,
+    angle2: u32,
+    body: &[u8],
+)
+    requires { ⌜ (on ≡ true → at + 16 + size ≤ length (now room)) × (size ≤ length (now body)) × (size < 2 ^ 32) ⌝ }
+    ensures { λ q. ⌜ now (room .exit) ≡ cond on (sets (now (room .entry)) at (leWrite 4 size ++ (print angleLayout (number angle0 ∷ number angle1 ∷ number angle2 ∷ []) ++ take size (now (body .entry))))) (now (room .entry)) ⌝ }
+{
+    if on {
+        let a = pieces::put_number(room, at, 4, size as u32);
+        let b = pieces::put_number(room, a, 4, angle0);
+        let c = pieces::put_number(room, b, 4, angle1);
+        let d = pieces::put_number(room, c, 4, angle2);
+        pieces::put_text(room, d, body, 0, size);
+    }
+}

@@ -84,6 +84,10 @@ unfolding print
 block-length true a b c body = simp (length-append, le-length) (omega arith)
 block-length false a b c body = refl
 
+put-nothing : (s : Bool) (out : List ℕ) (at : ℕ) → put s out at [] ≡ out
+put-nothing true out at = refl
+put-nothing false out at = refl
+
 pub put-length : (s : Bool) (out : List ℕ) (at : ℕ) (bytes : List ℕ) → length (put s out at bytes) ≡ length out
 put-length true out at bytes = length-sets out at bytes
 put-length false out at bytes = refl
@@ -217,32 +221,34 @@ module _ (given : Scene) (d : List ℕ) (on stores : Bool) (room base b m w : �
   stopsHere k =
       record { told = record { scene = t; blocks = b; messages = m; next = start; refusal = k; place = start }; written = w; room = out }
 
-  -- What is told here, where nothing more is read, or a block is refused at its head.
-  told-here : (k : ℕ) → start ≤ length d
-      → wroteOf given (length d) stores base b m w out (silent (stopped t (drop start d) k (drop start d))) ≡ stopsHere k
-  told-here k l =
-      ap (λ (x : Bool). record { told = cond x (here (b + 0) (m + 0) (length d - length (drop start d))) (refusedIn given (b + 0) (length d - length (drop start d)) k (length d - length (drop start d))); written = w + 0; room = put stores out (base + w) [] })
-      (eq-eqb (length (drop start d)) (length (drop start d)) refl)
-      ∙ (λ i. record { told = here (x i) (y i) (z i); written = v i; room = kept stores i })
+  -- Nothing more was read, and nothing more written.
+  nothing-more : start ≤ length d → (f : ℕ → ℕ → ℕ → Told)
+      → _≡_ {A = Wrote} (record { told = f (b + 0) (m + 0) (length d - length (drop start d)); written = w + 0; room = put stores out (base + w) [] })
+      (record { told = f b m start; written = w; room = out })
+  nothing-more l f = λ i. record { told = f (x i) (y i) (z i); written = v i; room = put-nothing stores out (base + w) i }
     where
-      here : ℕ → ℕ → ℕ → Told
-      here b m p = record { scene = t; blocks = b; messages = m; next = p; refusal = k; place = p }
-
       x : b + 0 ≡ b
       x = omega arith
 
       y : m + 0 ≡ m
       y = omega arith
 
-      v : w + 0 ≡ w
-      v = omega arith
-
       z : length d - length (drop start d) ≡ start
       z = omega (arith, length-drop start d)
 
-      kept : (s : Bool) → put s out (base + w) [] ≡ out
-      kept true = refl
-      kept false = refl
+      v : w + 0 ≡ w
+      v = omega arith
+
+  -- What is told here, where nothing more is read, or a block is refused at its head.
+  told-here : (k : ℕ) → start ≤ length d
+      → wroteOf given (length d) stores base b m w out (silent (stopped t (drop start d) k (drop start d))) ≡ stopsHere k
+  told-here k l =
+      ap (λ (x : Bool). record { told = cond x (here (b + 0) (m + 0) (length d - length (drop start d))) (refusedIn given (b + 0) (length d - length (drop start d)) k (length d - length (drop start d))); written = w + 0; room = put stores out (base + w) [] })
+      (eq-eqb (length (drop start d)) (length (drop start d)) refl)
+      ∙ nothing-more l here
+    where
+      here : ℕ → ℕ → ℕ → Told
+      here b m p = record { scene = t; blocks = b; messages = m; next = p; refusal = k; place = p }
 
   run-end : (k r : ℕ) → length d ≤ start → runOf on k r t (drop start d) ≡ silent (stopped t (drop start d) 0 (drop start d))
   unfolding writeMost
@@ -291,20 +297,7 @@ module _ (given : Scene) (d : List ℕ) (on stores : Bool) (room base b m w : �
       roomless-here l =
           ap (λ (x : Bool). record { told = cond x (toldOf given (length d) b m (stopped t (drop start d) 12 (drop start d))) (refusedIn given (b + 0) (length d - length (drop start d)) 12 (length bytes)); written = w + 0; room = put stores out (base + w) [] })
           (ne-eqb (length bytes) 0 (λ z. omega arith))
-          ∙ (λ i. record { told = refusedIn given (x i) (z i) 12 (length bytes); written = v i; room = kept stores i })
-        where
-          x : b + 0 ≡ b
-          x = omega arith
-
-          v : w + 0 ≡ w
-          v = omega arith
-
-          z : length d - length (drop start d) ≡ start
-          z = omega (arith, length-drop start d)
-
-          kept : (s : Bool) → put s out (base + w) [] ≡ out
-          kept true = refl
-          kept false = refl
+          ∙ nothing-more (omega arith) (λ b m p. refusedIn given b p 12 (length bytes))
 
       led-here : (q : WrittenRun Scene Block)
           → wroteOf given (length d) stores base b m w out (led (blockOf angles vs) bytes q)
@@ -395,17 +388,5 @@ module _ (given : Scene) (d : List ℕ) (on stores : Bool) (room base b m w : �
               room = put stores out (base + w) [];
             })
             (ne-eqb (length (left ++ behind′)) (length (drop start d)) apart)
-            ∙ (λ i. record { told = refusedIn given (x i) (y i) k (length d - length (left ++ behind i)); written = v i; room = kept stores i })
-          where
-            x : b + 0 ≡ b
-            x = omega arith
-
-            y : length d - length (drop start d) ≡ start
-            y = omega (arith, length-drop start d)
-
-            v : w + 0 ≡ w
-            v = omega arith
-
-            kept : (s : Bool) → put s out (base + w) [] ≡ out
-            kept true = refl
-            kept false = refl
+            ∙ nothing-more (omega arith) (λ b m p. refusedIn given b p k (length d - length (left ++ behind′)))
+            ∙ ap (λ (bs : List ℕ). refusedHere given d on stores room base b n start (start + 16 + size) angles w out k (length d - length (left ++ bs))) behind

@@ -2,3 +2,4 @@ pub mod StringLaws
 pub mod NameLaws
 pub mod NameLoops
 pub mod Places
+pub mod Scans

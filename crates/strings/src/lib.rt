@@ -1,15 +1,18 @@
 // Strings, and serverinfo's two lists of names, at a cursor.
 ghost use mathlib.Core.Path.{_≡_};
+ghost use mathlib.Core.Logic.{_≢_};
+ghost use mathlib.Core.Bool.{true};
 ghost use mathlib.Core.List.{[]};
 ghost use Prim.Native.Nat.{_+_, _≤_};
 ghost use lib.ListN.{length};
-ghost use Rattle.dem.specs.Limits.{nameLimit};
+ghost use Rattle.dem.specs.Limits.{nameLimit, stringLimit};
 ghost use Rattle.dem.specs.Bytes.{free};
 ghost use Rattle.dem.specs.Layout.{done};
 ghost use Rattle.dem.specs.Message.{names};
 ghost use Rattle.wire.specs.Cursors.{gotten, stringAt, parseAt, placed};
 ghost use Rattle.strings.specs.Names.{namesIn};
 ghost use Rattle.strings.specs.Places.{roomAt, noZero, someText, noText};
+ghost use Rattle.strings.specs.Scans.{Plain, Scanned};
 use wire::Cursor;
 use wire::Text;
 use wire::TextAt;
@@ -60,7 +63,52 @@ fn no_text(at: usize, refusal: u8) -> TextAt
     }
 }
 
-// A string at the cursor, tested byte by byte.
+// ---- bytes that a string goes on with, sixteen at a time: with no branch between them they are tested at once
+
+fn is_plain(b: u8) -> bool
+    ensures { λ r. ⌜ (r ≡ true → (b ≢ 0) × (b ≢ 255)) ⌝ }
+{
+    (b != 0) & (b != 255)
+}
+
+fn four_plain(s: &[u8], at: usize) -> bool
+    requires { ⌜ at + 4 ≤ length (now s) ⌝ }
+    ensures { λ r. ⌜ (r ≡ true → Plain (now (s .entry)) at 4) ⌝ }
+{
+    let a = is_plain(s[at]);
+    let b = is_plain(s[at + 1]);
+    let c = is_plain(s[at + 2]);
+    let d = is_plain(s[at + 3]);
+    a & b & c & d
+}
+
+fn sixteen_plain(s: &[u8], at: usize) -> bool
+    requires { ⌜ at + 16 ≤ length (now s) ⌝ }
+    ensures { λ r. ⌜ (r ≡ true → Plain (now (s .entry)) at 16) ⌝ }
+{
+    let a = four_plain(s, at);
+    let b = four_plain(s, at + 4);
+    let c = four_plain(s, at + 8);
+    let d = four_plain(s, at + 12);
+    a & b & c & d
+}
+
+// How many bytes a string goes on for, of those that can be tested sixteen at a time.
+fn plain_run(s: &[u8], start: usize, room: usize) -> usize
+    requires { ⌜ room ≡ roomAt (length (now s)) start ⌝ }
+    ensures { λ r. ⌜ (r ≤ room) × Scanned (now (s .entry)) stringLimit start r ⌝ }
+{
+    let mut n = 0;
+    while 16 <= room - n {
+        if !sixteen_plain(s, start + n) {
+            break;
+        }
+        n += 16;
+    }
+    n
+}
+
+// A string at the cursor, as if tested byte by byte.
 pub fn read_text(s: &[u8], c: Cursor) -> TextAt
     ensures { λ r. ⌜ gotten (now (s .entry)) (placed (now (s .entry)) (r .text)) (r .cursor) ≡ stringAt (now (s .entry)) c free ⌝ }
     ensures within { λ r. ⌜ (r .cursor .refusal ≡ 0 → r .text .start + r .text .len + 1 ≤ length (now (s .entry))) ⌝ }
@@ -71,7 +119,7 @@ pub fn read_text(s: &[u8], c: Cursor) -> TextAt
         return no_text(start, refusal);
     }
     let room = room_at(s.len(), start);
-    let mut n = 0;
+    let mut n = plain_run(s, start, room);
     while n < room {
         let b = s[start + n];
         if b == 0 {

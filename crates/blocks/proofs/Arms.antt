@@ -26,7 +26,7 @@ use Rattle.dem.specs.Recording.{readMessage, writeMessage, messages}
 use Rattle.dem.proofs.ResultLaws.{clash}
 use Rattle.dem.proofs.ByteLaws.{drop-bytes}
 use Rattle.dem.proofs.BlockLaws.{message-lawful}
-use Rattle.normal.specs.Normal.{otherBytes}
+use Rattle.normal.specs.Normal.{soundOf, soundBytes, otherBytes}
 use Rattle.dem.proofs.LayoutLaws.{Allowed}
 use Rattle.dem.proofs.AtLaws.{one-at, parse-good}
 use Rattle.dem.proofs.MessageLaws.{kind-update, fill-update, fill-client}
@@ -103,43 +103,43 @@ pub record Unmasked (m : Sent) : Type 0 where
   pub client : (d : Clientdata) → m ≡ M.Clientdata d → ⊥
   pub update : (u : Update) → m ≡ M.Update u → ⊥
 
-other-form : (t : Scene) (s : List ℕ) (at to : ℕ) (m : Sent) → Unmasked m → writeMessage t (valuesOf s m) ≡ take (to - at) (drop at s)
-    → normalBytes messages t (valuesOf s m) ≡ otherBytes (contextOf t) s at to m
+pub other-form : (t : Scene) (f : Text → List ℕ) (read : List ℕ) (m : Sent) → Unmasked m → writeMessage t (valuesBy f m) ≡ read
+    → normalBytes messages t (valuesBy f m) ≡ soundBytes (contextOf t) read (soundOf m)
 unfolding normal fill writeMessage
-other-form t s at to M.Nop h w = w
-other-form t s at to M.Disconnect h w = w
-other-form t s at to (M.Stat _ _) h w = w
-other-form t s at to (M.Version _) h w = w
-other-form t s at to (M.View _) h w = w
-other-form t s at to (M.Sound v) h w = refl
-other-form t s at to (M.Time _) h w = w
-other-form t s at to (M.Print _) h w = w
-other-form t s at to (M.Stufftext _) h w = w
-other-form t s at to (M.SetAngles _ _ _) h w = w
-other-form t s at to (M.Serverinfo _) h w = w
-other-form t s at to (M.Style _ _) h w = w
-other-form t s at to (M.Name _ _) h w = w
-other-form t s at to (M.Frags _ _) h w = w
-other-form t s at to (M.Clientdata d) h w = absurd (h .client d refl)
-other-form t s at to (M.Stopsound _ _) h w = w
-other-form t s at to (M.Colours _ _) h w = w
-other-form t s at to (M.Particle _) h w = w
-other-form t s at to (M.Damage _ _ _) h w = w
-other-form t s at to (M.Static _ _) h w = w
-other-form t s at to (M.Baseline _ _ _) h w = w
-other-form t s at to (M.Temporary _) h w = w
-other-form t s at to (M.Pause _) h w = w
-other-form t s at to (M.Signon _) h w = w
-other-form t s at to (M.Centerprint _) h w = w
-other-form t s at to M.Killed h w = w
-other-form t s at to M.Secret h w = w
-other-form t s at to (M.StaticSound _ _ _ _) h w = w
-other-form t s at to M.Intermission h w = w
-other-form t s at to (M.Finale _) h w = w
-other-form t s at to (M.Track _ _) h w = w
-other-form t s at to M.Sellscreen h w = w
-other-form t s at to (M.Cutscene _) h w = w
-other-form t s at to (M.Update u) h w = absurd (h .update u refl)
+other-form t f read M.Nop h w = w
+other-form t f read M.Disconnect h w = w
+other-form t f read (M.Stat _ _) h w = w
+other-form t f read (M.Version _) h w = w
+other-form t f read (M.View _) h w = w
+other-form t f read (M.Sound v) h w = refl
+other-form t f read (M.Time _) h w = w
+other-form t f read (M.Print _) h w = w
+other-form t f read (M.Stufftext _) h w = w
+other-form t f read (M.SetAngles _ _ _) h w = w
+other-form t f read (M.Serverinfo _) h w = w
+other-form t f read (M.Style _ _) h w = w
+other-form t f read (M.Name _ _) h w = w
+other-form t f read (M.Frags _ _) h w = w
+other-form t f read (M.Clientdata d) h w = absurd (h .client d refl)
+other-form t f read (M.Stopsound _ _) h w = w
+other-form t f read (M.Colours _ _) h w = w
+other-form t f read (M.Particle _) h w = w
+other-form t f read (M.Damage _ _ _) h w = w
+other-form t f read (M.Static _ _) h w = w
+other-form t f read (M.Baseline _ _ _) h w = w
+other-form t f read (M.Temporary _) h w = w
+other-form t f read (M.Pause _) h w = w
+other-form t f read (M.Signon _) h w = w
+other-form t f read (M.Centerprint _) h w = w
+other-form t f read M.Killed h w = w
+other-form t f read M.Secret h w = w
+other-form t f read (M.StaticSound _ _ _ _) h w = w
+other-form t f read M.Intermission h w = w
+other-form t f read (M.Finale _) h w = w
+other-form t f read (M.Track _ _) h w = w
+other-form t f read M.Sellscreen h w = w
+other-form t f read (M.Cutscene _) h w = w
+other-form t f read (M.Update u) h w = absurd (h .update u refl)
 
 module _ (s : List ℕ) (at : ℕ) (l : at < length s) (b : List Baseline) (e : List Record) (p : List Bool) (x : Rest) where
   pub ended-refused : x .ended ≡ true → readMessage (held b e p x) (drop at s) ≡ refused 11 (drop at s)
@@ -306,7 +306,7 @@ module _ (s : List ℕ) (at : ℕ) (l : at < length s) (b : List Baseline) (e : 
           other-moved : (t : Scene) → apply (held b e p x) (fill (held b e p x) (valuesOf s m)) ≡ t → Moved s (held b e p x) at t (c .at) otherForm
           other-moved t f =
               parsed-moved (valuesOf s m) c other-parsed z t f _
-              (other-form (held b e p x) s at (c .at) m unmasked (parsed-bytes (valuesOf s m) c other-parsed h z))
+              (other-form (held b e p x) (placed s) (take (c .at - at) (drop at s)) m unmasked (parsed-bytes (valuesOf s m) c other-parsed h z))
 
           pub baseline-moved : (i : Entity) (o : Look) (r : Pose) → m ≡ M.Baseline i o r
               → Moved s (held b e p x) at (held (set b (i .0) (record { look = o; pose = r })) e p x) (c .at) otherForm

@@ -5,7 +5,7 @@ use Rattle.dem.specs.Layout.{number}
 use Rattle.dem.specs.Scene.{Scene as Described}
 use Rattle.dem.specs.Message.{Message as Values}
 use Rattle.dem.specs.Answer.{Answer, result, atEnd, refusal, Item, Reply, reply, Written, written, Track, Outline as Told}
-use Rattle.dem.specs.Answer.{Progress as Passed, Summary}
+use Rattle.dem.specs.Answer.{Progress as Passed, Rewriting as Rewritten, Normalised, Summary}
 use Rattle.wire.specs.Cursors.{placed}
 use Rattle.message.specs.Values.{valuesOf}
 use Rattle.scene.specs.Views.{sceneOf, filledValues}
@@ -17,6 +17,8 @@ use Rattle.cobbrundle.specs.declared.WriteAnswer.the-variants as W
 use Rattle.cobbrundle.specs.declared.WriteReply.{WriteReply}
 use Rattle.cobbrundle.specs.declared.TrackAnswer.{TrackAnswer}
 use Rattle.cobbrundle.specs.declared.TrackAnswer.the-variants as T
+use Rattle.cobbrundle.specs.declared.TrackNormalAnswer.{TrackNormalAnswer}
+use Rattle.cobbrundle.specs.declared.TrackNormalAnswer.the-variants as K
 use Rattle.cobbrundle.specs.declared.Outline.{Outline}
 use Rattle.cobbrundle.specs.declared.BlockAnswer.{BlockAnswer}
 use Rattle.cobbrundle.specs.declared.BlockAnswer.the-variants as B
@@ -27,6 +29,13 @@ use Rattle.cobbrundle.specs.declared.BlocksReply.{BlocksReply}
 use Rattle.cobbrundle.specs.declared.RecordingAnswer.{RecordingAnswer}
 use Rattle.cobbrundle.specs.declared.RecordingAnswer.the-variants as R
 use Rattle.cobbrundle.specs.declared.RecordingReply.{RecordingReply}
+use Rattle.cobbrundle.specs.declared.Progress.{Progress}
+use Rattle.cobbrundle.specs.declared.RewriteAnswer.{RewriteAnswer}
+use Rattle.cobbrundle.specs.declared.RewriteAnswer.the-variants as N
+use Rattle.cobbrundle.specs.declared.RewriteReply.{RewriteReply}
+use Rattle.cobbrundle.specs.declared.NormalAnswer.{NormalAnswer}
+use Rattle.cobbrundle.specs.declared.NormalAnswer.the-variants as O
+use Rattle.cobbrundle.specs.declared.NormalReply.{NormalReply}
 
 -- Strings are at their places in the input s.
 abbrev pub answerOf : List ℕ → MessageAnswer → Answer (Item Values Values)
@@ -68,8 +77,11 @@ blockAnswerOf (B.Refused n p) = refusal n p
 abbrev pub blockReplyOf : BlockReply → Reply Described Told
 blockReplyOf r = reply (sceneOf (r .scene)) (blockAnswerOf (r .answer))
 
+abbrev pub progressOf : Progress → Passed
+progressOf p = record { blocks = p .blocks; messages = p .messages; next = p .next; refusal = p .refusal; place = p .place }
+
 abbrev pub blocksAnswerOf : BlocksAnswer → Answer Passed
-blocksAnswerOf (P.Read p) = result (record { blocks = p .blocks; messages = p .messages; next = p .next; refusal = p .refusal; place = p .place })
+blocksAnswerOf (P.Read p) = result (progressOf p)
 blocksAnswerOf (P.Refused n p) = refusal n p
 
 abbrev pub blocksReplyOf : BlocksReply → Reply Described Passed
@@ -81,3 +93,30 @@ recordingAnswerOf (R.Refused n p) = refusal n p
 
 abbrev pub recordingReplyOf : RecordingReply → Reply Described Summary
 recordingReplyOf r = reply (sceneOf (r .scene)) (recordingAnswerOf (r .answer))
+
+-- ---- normal forms
+
+abbrev pub rewriteAnswerOf : RewriteAnswer → Answer Rewritten
+rewriteAnswerOf (N.Written w) = result (record { progress = progressOf (w .progress); length = w .length })
+rewriteAnswerOf (N.Refused n p) = refusal n p
+
+-- With what the room holds afterwards.
+abbrev pub rewriteReplyOf : RewriteReply → List ℕ → Written Described Rewritten
+rewriteReplyOf r room = written (reply (sceneOf (r .scene)) (rewriteAnswerOf (r .answer))) room
+
+abbrev pub normalAnswerOf : NormalAnswer → Answer Normalised
+normalAnswerOf (O.Written n next) = result (record { length = n; next = next })
+normalAnswerOf O.End = atEnd
+normalAnswerOf (O.Refused n p) = refusal n p
+
+-- With what the room holds afterwards.
+abbrev pub normalReplyOf : NormalReply → List ℕ → Written Described Normalised
+normalReplyOf r room = written (reply (sceneOf (r .scene)) (normalAnswerOf (r .answer))) room
+
+abbrev pub trackCountOf : TrackNormalAnswer → Answer Normalised
+trackCountOf (K.Written n next) = result (record { length = n; next = next })
+trackCountOf (K.Refused n p) = refusal n p
+
+-- With what the room holds afterwards; there is no scene.
+abbrev pub trackWrittenOf : TrackNormalAnswer → List ℕ → Written (Unit {0}) Normalised
+trackWrittenOf r room = written (reply tt (trackCountOf r)) room

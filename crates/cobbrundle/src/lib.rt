@@ -1,13 +1,23 @@
 // The library's entries: any bytes, any scene and any record get an answer. None has a `requires`.
 ghost use mathlib.Core.Path.{_≡_};
-ghost use Prim.Native.Nat.{_-_};
+ghost use mathlib.Core.List.{List};
+ghost use mathlib.Core.Bool.{true, cond};
+ghost use Prim.Native.Nat.{ℕ, _+_, _-_, _≤_};
+ghost use lib.Dec.{eqb};
+ghost use lib.ListN.{length, take, drop};
 ghost use Rattle.dem.specs.Scene.{fresh};
-ghost use Rattle.dem.specs.Answer.{reply, result, messageAt, writeSent, trackAt, outlineAt, blocksAt, whole};
-ghost use Rattle.scene.specs.Views.{sceneOf};
+ghost use Rattle.dem.specs.Codec.{normalBytes};
+ghost use Rattle.dem.specs.Recording.{writeMessage, messages, blocks as recordingBlocks};
+ghost use Rattle.dem.specs.Answer.{reply, result, intoRoom, messageAt, writeSent, trackAt, outlineAt, blocksAt, whole, normalAt, normalBlocksAt, trackNormal, wholeNormal};
+ghost use Rattle.scene.specs.Views.{sceneOf, Numbered};
 ghost use Rattle.message.specs.Values.{valuesBy};
 ghost use Rattle.wire.specs.Cursors.{placed};
+ghost use Rattle.wire.specs.declared.Text.{Text};
+ghost use Rattle.blocks.specs.Runs.{stored, wroteOf, runOf, wrote};
 ghost use Rattle.cobbrundle.specs.Replies.{replyOf, writtenOf, trackAnswerOf, blockReplyOf, blocksReplyOf, recordingReplyOf};
+ghost use Rattle.cobbrundle.specs.Replies.{normalReplyOf, rewriteAnswerOf, rewriteReplyOf, trackWrittenOf};
 use blocks::BlocksAt;
+use blocks::WrittenAt;
 use message::Message;
 use scene::Filled;
 use scene::Scene;
@@ -138,6 +148,100 @@ pub fn write_message(scene: Scene, message: Message, text: &[u8], room: &mut [u8
     WriteReply {
         answer: WriteAnswer::Written(written),
         scene: effects::scene_after(scene, message),
+    }
+}
+
+// ---- normal forms
+
+// The number of bytes written and the place of what follows what they were read from; or "end"; or a refusal's number and place.
+pub enum NormalAnswer {
+    Written(usize, usize),
+    End,
+    Refused(u8, usize),
+}
+
+// With a refusal and at the end, the scene given.
+pub struct NormalReply {
+    pub answer: NormalAnswer,
+    pub scene: Scene,
+}
+
+// Room for the normal form of a message with a mask, and for its fields that are not sent.
+const FORM_SIZE: usize = 32;
+
+// The normal form of a message with a mask, and its size. Every other message is its own normal form, and its size here is 0.
+fn masked_form(scene: Scene, message: Message, form: &mut [u8]) -> usize
+    requires { ⌜ 32 ≤ length (now form) ⌝ }
+    ensures { λ r. ⌜ ((t : Text → List ℕ) → Numbered message → normalBytes messages (sceneOf scene) (valuesBy t message) ≡ cond (eqb r 0) (writeMessage (sceneOf scene) (valuesBy t message)) (take r (now (form .exit)))) ⌝ }
+    ensures within { λ r. ⌜ r ≤ length (now (form .exit)) ⌝ }
+{
+    match message {
+        Message::Clientdata(d) => normal::put_client(true, form, 0, scene::fill_client(d)),
+        Message::Update(u) => {
+            let entity = u.entity;
+            let i = entity.0 as usize;
+            let b = effects::baseline_of(scene, i);
+            let record = scene::fill_update(u, b);
+            normal::put_update(true, form, 0, i, record, b)
+        }
+        _ => {
+            let nothing = [0u8; 1];
+            normal::put_other(true, form, 0, &nothing, 0, 0, message)
+        }
+    }
+}
+
+// Bytes of a text at the room's front, if it has room for them. What is behind them stays.
+fn into_room(
+    scene: Scene,
+    after: Scene,
+    room: &mut [u8],
+    text: &[u8],
+    start: usize,
+    len: usize,
+    next: usize,
+) -> NormalReply
+    requires { ⌜ start + len ≤ length (now text) ⌝ }
+    ensures { λ r. ⌜ normalReplyOf r (now (room .exit)) ≡ intoRoom (sceneOf scene) (reply (sceneOf after) (result (record { length = len; next = next }))) (take len (drop start (now (text .entry)))) (now (room .entry)) ⌝ }
+{
+    if room.len() < len {
+        return NormalReply {
+            answer: NormalAnswer::Refused(12, len),
+            scene,
+        };
+    }
+    let written = pieces::put_text(room, 0, text, start, len);
+    NormalReply {
+        answer: NormalAnswer::Written(written, next),
+        scene: after,
+    }
+}
+
+// The normal form of the message at a place of a block's bytes, in a scene, into lent room. With a refusal nothing is written; what is
+// behind the message stays.
+pub fn normal_message_at(scene: Scene, bytes: &[u8], at: usize, room: &mut [u8]) -> NormalReply
+    ensures { λ r. ⌜ normalReplyOf r (now (room .exit)) ≡ normalAt messages (sceneOf scene) (now (bytes .entry)) at (now (room .entry)) ⌝ }
+{
+    let m = read_message_at(scene, bytes, at);
+    let answer = m.answer;
+    let after = m.scene;
+    match answer {
+        MessageAnswer::Found(message, _, next) => {
+            let mut form = [0u8; FORM_SIZE];
+            let size = masked_form(scene, message, &mut form);
+            if size == 0 {
+                return into_room(scene, after, room, bytes, at, next - at, next);
+            }
+            into_room(scene, after, room, &form, 0, size, next)
+        }
+        MessageAnswer::End => NormalReply {
+            answer: NormalAnswer::End,
+            scene,
+        },
+        MessageAnswer::Refused(refusal, place) => NormalReply {
+            answer: NormalAnswer::Refused(refusal, place),
+            scene,
+        },
     }
 }
 
@@ -334,6 +438,189 @@ pub fn read_recording(bytes: &[u8]) -> RecordingReply
     let after = b.scene;
     RecordingReply {
         answer: RecordingAnswer::Read(t.number, b.blocks, b.messages),
+        scene: after,
+    }
+}
+
+// ---- normal forms of recordings
+
+// Of blocks in normal form: also the number of the bytes written.
+pub struct Rewriting {
+    pub progress: Progress,
+    pub length: usize,
+}
+
+pub enum RewriteAnswer {
+    Written(Rewriting),
+    Refused(u8, usize),
+}
+
+// The scene after the blocks that were written.
+pub struct RewriteReply {
+    pub answer: RewriteAnswer,
+    pub scene: Scene,
+}
+
+// What is told of blocks that were written, of the refusal met behind them and of the number of their bytes.
+fn told_written(b: BlocksAt, refusal: u8, place: usize, length: usize) -> RewriteReply
+    ensures { λ r. ⌜ reply (sceneOf (r .scene)) (rewriteAnswerOf (r .answer)) ≡ reply (sceneOf (b .scene)) (result (record { progress = record { blocks = b .blocks; messages = b .messages; next = b .next; refusal = refusal; place = place }; length = length })) ⌝ }
+{
+    let progress = Progress {
+        blocks: b.blocks,
+        messages: b.messages,
+        next: b.next,
+        refusal,
+        place,
+    };
+    let after = b.scene;
+    RewriteReply {
+        answer: RewriteAnswer::Written(Rewriting { progress, length }),
+        scene: after,
+    }
+}
+
+// The normal forms of as many whole blocks as there are from a place of a recording on and the lent room takes, in a scene. Where a message
+// is refused or room is short, the blocks before are read again, for the scene that they lead to.
+pub fn normal_blocks_at(scene: Scene, bytes: &[u8], at: usize, room: &mut [u8]) -> RewriteReply
+    ensures { λ r. ⌜ rewriteReplyOf r (now (room .exit)) ≡ normalBlocksAt (sceneOf scene) (now (bytes .entry)) at (now (room .entry)) ⌝ }
+{
+    let rest = scene.rest;
+    if !scene::in_range(rest) {
+        return RewriteReply {
+            answer: RewriteAnswer::Refused(14, 0),
+            scene,
+        };
+    }
+    if bytes.len() < at {
+        return RewriteReply {
+            answer: RewriteAnswer::Refused(5, at),
+            scene,
+        };
+    }
+    let w = blocks::write_blocks(bytes, at, bytes.len(), scene, true, room.len(), room, 0);
+    let all = w.read;
+    let next = all.next;
+    let place = all.place;
+    let refusal = all.refusal;
+    if (next == place) & (refusal != 12) {
+        return told_written(all, refusal, place, w.written);
+    }
+    let before = blocks::read_blocks(bytes, at, all.blocks, scene);
+    told_written(before, refusal, place, w.written)
+}
+
+// The normal form of the block at a place of a recording, in a scene, into lent room. With a refusal nothing is written; what is behind the
+// normal form stays.
+pub fn normal_block_at(scene: Scene, bytes: &[u8], at: usize, room: &mut [u8]) -> NormalReply
+    ensures { λ r. ⌜ normalReplyOf r (now (room .exit)) ≡ normalAt recordingBlocks (sceneOf scene) (now (bytes .entry)) at (now (room .entry)) ⌝ }
+{
+    let rest = scene.rest;
+    if !scene::in_range(rest) {
+        return NormalReply {
+            answer: NormalAnswer::Refused(14, 0),
+            scene,
+        };
+    }
+    if at == bytes.len() {
+        return NormalReply {
+            answer: NormalAnswer::End,
+            scene,
+        };
+    }
+    if bytes.len() < at {
+        return NormalReply {
+            answer: NormalAnswer::Refused(5, at),
+            scene,
+        };
+    }
+    let w = blocks::write_blocks(bytes, at, 1, scene, true, room.len(), room, 0);
+    let b = w.read;
+    let refusal = b.refusal;
+    if refusal != 0 {
+        return NormalReply {
+            answer: NormalAnswer::Refused(refusal, b.place),
+            scene,
+        };
+    }
+    let after = b.scene;
+    NormalReply {
+        answer: NormalAnswer::Written(w.written, b.next),
+        scene: after,
+    }
+}
+
+// The number of bytes written and the place of what follows the line; or a refusal's number and place.
+pub enum TrackNormalAnswer {
+    Written(usize, usize),
+    Refused(u8, usize),
+}
+
+// The normal form of the track line, into lent room. With a refusal nothing is written; what is behind the line stays.
+pub fn normal_track(bytes: &[u8], room: &mut [u8]) -> TrackNormalAnswer
+    ensures { λ r. ⌜ trackWrittenOf r (now (room .exit)) ≡ trackNormal (now (bytes .entry)) (now (room .entry)) ⌝ }
+{
+    let t = heads::read_track(bytes);
+    let refusal = t.refusal;
+    if refusal != 0 {
+        return TrackNormalAnswer::Refused(refusal, t.at);
+    }
+    let number = t.number;
+    let line = heads::track_size(number);
+    if room.len() < line {
+        return TrackNormalAnswer::Refused(12, line);
+    }
+    let written = heads::put_track(room, number);
+    TrackNormalAnswer::Written(written, t.at)
+}
+
+// The normal forms of all blocks from a place of a recording on, into at most so much room from a place of it on.
+fn write_all(bytes: &[u8], at: usize, limit: usize, room: &mut [u8], base: usize) -> WrittenAt
+    requires { ⌜ (at ≤ length (now bytes)) × (base ≤ length (now room)) ⌝ }
+    ensures { λ r. ⌜ wrote r (now (room .exit)) ≡ wroteOf fresh (length (now (bytes .entry))) (stored (now (room .entry)) base limit) base 0 0 0 (now (room .entry)) (runOf true (length (now (bytes .entry))) limit fresh (drop at (now (bytes .entry)))) ⌝ }
+{
+    blocks::write_blocks(bytes, at, bytes.len(), start(), true, limit, room, base)
+}
+
+// More than any lent room: blocks are counted, and none is stored.
+const ANY_ROOM: usize = 18446744073709551615;
+
+// The normal form of a whole recording, into lent room: first counted, which also finds what is wrong, then written. With a refusal nothing
+// is written; what is behind the recording stays.
+pub fn normal_recording(bytes: &[u8], room: &mut [u8]) -> WriteReply
+    ensures { λ r. ⌜ writtenOf r (now (room .exit)) ≡ wholeNormal (now (bytes .entry)) (now (room .entry)) ⌝ }
+{
+    let t = heads::read_track(bytes);
+    let wrong = t.refusal;
+    if wrong != 0 {
+        return WriteReply {
+            answer: WriteAnswer::Refused(wrong, t.at),
+            scene: start(),
+        };
+    }
+    let number = t.number;
+    let line = heads::track_size(number);
+    let count = write_all(bytes, t.at, ANY_ROOM, room, 0);
+    let b = count.read;
+    let refusal = b.refusal;
+    if refusal != 0 {
+        return WriteReply {
+            answer: WriteAnswer::Refused(refusal, b.place),
+            scene: start(),
+        };
+    }
+    let needed = line + count.written;
+    if room.len() < needed {
+        return WriteReply {
+            answer: WriteAnswer::Refused(12, needed),
+            scene: start(),
+        };
+    }
+    heads::put_track(room, number);
+    let w = write_all(bytes, t.at, count.written, room, line);
+    let read = w.read;
+    let after = read.scene;
+    WriteReply {
+        answer: WriteAnswer::Written(needed),
         scene: after,
     }
 }

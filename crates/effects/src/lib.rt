@@ -19,7 +19,7 @@ use scene::Filled;
 use scene::Scene;
 
 // The baseline of an entity, all zero past the last.
-fn baseline_of(s: Scene, i: usize) -> Baseline
+pub fn baseline_of(s: Scene, i: usize) -> Baseline
     ensures { λ r. ⌜ baselineNumbers r ≡ baselineAt (sceneOf s) i ⌝ }
 {
     if i < 449 {

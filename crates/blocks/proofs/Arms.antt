@@ -4,14 +4,14 @@
 use mathlib.Core.Path.{_≡_, refl, sym, ap, ap₂, _∙_, subst}
 use mathlib.Core.Logic.{_≢_}
 use mathlib.Core.List.{List, [], _∷_, _++_, map, append-nil}
-use mathlib.Core.Bool.{Bool, true, false, not}
-use Prim.Native.Nat.{ℕ, _+_, _-_, _<_, _≤_}
+use mathlib.Core.Bool.{Bool, true, false, cond, not, _&&_}
+use Prim.Native.Nat.{ℕ, _+_, _-_, _*_, _<_, _≤_}
 use native.Mathlib.Omega.{arith}
-use borrow.Author.Tests.{leb-true, leb-false, le-leb}
+use borrow.Author.Tests.{leb-true, leb-false, le-leb, eqb-true}
 use denote.Enum.Declared.{tagOf}
 use types.Run.{OneOf}
 use mir.Val.{hasKey}
-use lib.Dec.{T, leb}
+use lib.Dec.{T, leb, eqb}
 use lib.IntN.{pos}
 use lib.ListN.{length, take, drop, getD, set, replicate, length-append, length-drop, drop-of-length-le}
 use lib.Seq.{take-append-seam, take-all}
@@ -27,7 +27,9 @@ use Rattle.dem.proofs.ResultLaws.{clash}
 use Rattle.dem.proofs.ByteLaws.{drop-bytes}
 use Rattle.dem.proofs.BlockLaws.{message-lawful}
 use Rattle.normal.specs.Normal.{soundOf, soundBytes, otherBytes}
-use Rattle.dem.proofs.LayoutLaws.{Allowed}
+use Rattle.normal.specs.Kept.{normalBits, readOrAnew}
+use Rattle.normal.proofs.KeptLaws.{kept-update}
+use Rattle.dem.proofs.LayoutLaws.{Allowed, and-true, parse-sound}
 use Rattle.dem.proofs.AtLaws.{one-at, parse-good}
 use Rattle.dem.proofs.MessageLaws.{kind-update, fill-update, fill-client}
 use Rattle.dem.proofs.UpdateLaws.{entity-known, UpdateRead, update-read}
@@ -227,27 +229,55 @@ module _ (s : List ℕ) (at : ℕ) (l : at < length s) (b : List Baseline) (e : 
             (fill-update t (u .number) (tail (updateValues u)) numbered ∙ ap (λ (y : List ℕ). fillUpdate y (u .number) (tail (updateValues u))) (sym seen) ∙ sym f))
 
     -- An update by its values as sent, its record being filled in already.
-    pub quick-moved : (n : ℕ) → n ≡ getD s at 0 → 128 ≤ n → (high i : ℕ) (sent : List Value) (to : ℕ) (r : Record)
-        → parse (updateLayout n) (drop (at + 1) s) ≡ found (number high ∷ number i ∷ sent) (drop to s)
-        → fillUpdate (baselineNumbers (getD b i noBaseline)) n (number high ∷ number i ∷ sent) ≡ number Kind.update ∷ number i ∷ recordValues r
-        → Moved s (held b e p x) at (held b (set e i r) (set p i true) x) to (updateForm i r)
-    unfolding sceneWith apply layout
-    quick-moved n en large high i sent to r q f =
-        let t = held b e p x in
-        let us : List Value = number high ∷ number i ∷ sent in
-        let message : isMessage n ≡ true = is-message n (λ z. omega arith) (λ z. omega arith) (λ y z. omega arith) in
-        let filled : fill t (number n ∷ us) ≡ number Kind.update ∷ number i ∷ recordValues r =
-        fill-update t n us (le-leb 128 n large) ∙ ap (λ (y : List ℕ). fillUpdate y n us) (sym (seen-at baselineNumbers b i noBaseline)) ∙ f in
-        record {
-          values = number n ∷ us;
-          read = message-parsed t s at going (number n ∷ us) (drop to s)
-              (parse-good 1 (numberRule (contextOf t)) (kindLayout (contextOf t)) at s n (omega arith) (one-at at s l ∙ sym en) (rule-good (contextOf t) n message (λ z. omega arith))
-              ∙ ap (λ (y : Layout). put (number n) (parse y (drop (at + 1) s))) (kind-update (contextOf t) n (le-leb 128 n large))
-              ∙ ap (put (number n)) q);
-          scene = ap (apply t) filled
-              ∙ sym (ap (λ (l : List (List ℕ)). withTables (t .baselines) l (set (t .present) i true) t) (set-seen recordNumbers e i r _ refl));
-          normal = update-normal i r (number n ∷ us) filled;
-        }
+    module _ (n : ℕ) (en : n ≡ getD s at 0) (large : 128 ≤ n) (high i : ℕ) (sent : List Value) (to : ℕ) (r : Record)
+        (q : parse (updateLayout n) (drop (at + 1) s) ≡ found (number high ∷ number i ∷ sent) (drop to s))
+        (f : fillUpdate (baselineNumbers (getD b i noBaseline)) n (number high ∷ number i ∷ sent) ≡ number Kind.update ∷ number i ∷ recordValues r) where
+      quick-read : readMessage (held b e p x) (drop at s) ≡ found (number n ∷ number high ∷ number i ∷ sent) (drop to s)
+      unfolding sceneWith layout
+      quick-read =
+          let t = held b e p x in
+          let us : List Value = number high ∷ number i ∷ sent in
+          let message : isMessage n ≡ true = is-message n (λ z. omega arith) (λ z. omega arith) (λ y z. omega arith) in
+          message-parsed t s at going (number n ∷ us) (drop to s)
+          (parse-good 1 (numberRule (contextOf t)) (kindLayout (contextOf t)) at s n (omega arith) (one-at at s l ∙ sym en) (rule-good (contextOf t) n message (λ z. omega arith))
+          ∙ ap (λ (y : Layout). put (number n) (parse y (drop (at + 1) s))) (kind-update (contextOf t) n (le-leb 128 n large))
+          ∙ ap (put (number n)) q)
+
+      pub quick-moved : Moved s (held b e p x) at (held b (set e i r) (set p i true) x) to (updateForm i r)
+      unfolding sceneWith apply
+      quick-moved =
+          let t = held b e p x in
+          let us : List Value = number high ∷ number i ∷ sent in
+          let filled : fill t (number n ∷ us) ≡ number Kind.update ∷ number i ∷ recordValues r =
+          fill-update t n us (le-leb 128 n large) ∙ ap (λ (y : List ℕ). fillUpdate y n us) (sym (seen-at baselineNumbers b i noBaseline)) ∙ f in
+          record {
+            values = number n ∷ us;
+            read = quick-read;
+            scene = ap (apply t) filled
+                ∙ sym (ap (λ (l : List (List ℕ)). withTables (t .baselines) l (set (t .present) i true) t) (set-seen recordNumbers e i r _ refl));
+            normal = update-normal i r (number n ∷ us) filled;
+          }
+
+      -- Where its mask is the one of its normal form, its bytes are those that it was read from.
+      pub kept-form : Bytes s → n < 256 → (mask len : ℕ) (bs : List ℕ) → mask ≡ high * 256 + n → take len bs ≡ take (to - at) (drop at s)
+          → readOrAnew (contextOf (held b e p x)) (baselineNumbers (getD b i noBaseline)) (number i ∷ recordValues r) mask len bs ≡ updateForm i r
+      unfolding writeMessage
+      kept-form h small mask len bs em eb =
+          go (eqb (normalBits (baselineNumbers (getD b i noBaseline)) (number i ∷ recordValues r)) mask && leb len 18) refl
+        where
+          go : (c : Bool) → (eqb (normalBits (baselineNumbers (getD b i noBaseline)) (number i ∷ recordValues r)) mask && leb len 18) ≡ c
+              → cond c (take len bs) (print (layoutIn (held b e p x)) (sendUpdate (baselineNumbers (getD b i noBaseline)) (number i ∷ recordValues r))) ≡ updateForm i r
+          go false e′ = refl
+          go true e′ =
+              let t = held b e p x in
+              let us : List Value = number high ∷ number i ∷ sent in
+              let same = and-true (eqb (normalBits (baselineNumbers (getD b i noBaseline)) (number i ∷ recordValues r)) mask) (leb len 18) e′ .0 in
+              eb
+              ∙ sym (copied s at to (writeMessage t (number n ∷ us)) l
+              (message-lawful .sound t (drop at s) (number n ∷ us) (drop to s) (drop-bytes at s h) quick-read .tiles))
+              ∙ ap (print (layoutIn t))
+              (sym (kept-update (baselineNumbers (getD b i noBaseline)) n high i sent (recordValues r) small
+              (parse-sound (updateLayout n) (drop (at + 1) s) us (drop to s) (drop-bytes (at + 1) s h) q .fits) f (eqb-true _ _ same ∙ em)))
 
     -- ---- a time, and clientdata
 

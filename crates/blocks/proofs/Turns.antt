@@ -9,7 +9,7 @@ use native.Mathlib.Omega.{arith}
 use borrow.Author.Tests.{eq-eqb, ne-eqb, lt-ltb, le-ltb, ltb-true, ltb-false}
 use lib.Dec.{ltb, eqb}
 use lib.ListN.{length, take, drop, getD, length-take, length-drop, length-append, drop-of-length-le}
-use lib.Seq.{take-nil, drop-cons, drop-drop, length-take-le, sets, length-sets}
+use lib.Seq.{take-nil, drop-cons, drop-drop, length-take-le, take-take, sets, length-sets}
 use Rattle.dem.specs.Bytes.{Bytes, Result, found, refused, mapResult, bind, leWrite}
 use Rattle.dem.specs.Layout.{Value, number, print}
 use Rattle.dem.specs.Scene.{Scene, inRange}
@@ -35,6 +35,11 @@ take-drop m (suc n) [] = take-nil m ∙ sym (ap (drop (suc n)) (take-nil (suc n 
 take-drop m (suc n) (x ∷ l) =
     let e : suc n + m ≡ suc (n + m) = omega arith in
     take-drop m n l ∙ rw e
+
+-- The first bytes from a place on, where they end before the bytes do.
+pub front-kept : (m n end : ℕ) (l : List ℕ) → n + m ≤ end → take m (drop n l) ≡ take m (drop n (take end l))
+front-kept m n end l h =
+    take-drop m n l ∙ ap (drop n) (sym (take-take (n + m) end l h)) ∙ sym (take-drop m n (take end l))
 
 -- ---- messages
 

@@ -176,7 +176,19 @@ pub fn write_blocks(
                             let to = f.next;
                             if to <= end {
                                 let record = f.record;
-                                size = normal::put_update(on, &mut body, size, i, record, b);
+                                let len = to - at;
+                                size = normal::put_read_update(
+                                    on,
+                                    &mut body,
+                                    size,
+                                    d,
+                                    at,
+                                    len,
+                                    mask,
+                                    i,
+                                    record,
+                                    b,
+                                );
                                 records[i] = record;
                                 present[i] = true;
                                 at = to;

@@ -3,11 +3,11 @@
 use mathlib.Core.Path.{_≡_, refl, sym, ap, ap₂, _∙_}
 use mathlib.Core.List.{List, [], _∷_, _++_, append-assoc, append-nil}
 use mathlib.Core.Bool.{Bool, true, false, cond}
-use Prim.Native.Nat.{ℕ, _+_, _*_, _/_, _%_, _≤_, _<_}
+use Prim.Native.Nat.{ℕ, suc, _+_, _*_, _/_, _%_, _≤_, _<_}
 use native.Mathlib.Omega.{arith}
 use native.Mathlib.Numerals.{add-one}
-use lib.ListN.{length, take, drop, set, length-append, length-set}
-use lib.Seq.{sets, sets-eq, length-sets, length-take-le, take-at, take-set-le}
+use lib.ListN.{length, take, drop, getD, set, length-append, length-set, length-drop}
+use lib.Seq.{sets, sets-eq, length-sets, length-take-le, take-at, take-set-le, take-suc-set, take-suc, take-take, take-append-add, getD-drop}
 use Rattle.dem.specs.Bytes.{leWrite}
 use Rattle.dem.specs.Layout.{Value, asNumber}
 use Rattle.dem.specs.Masked.{Slot, differs}
@@ -100,3 +100,35 @@ pub slots-then : (ss ts : List Slot) (us vs : List Value) (a b c : List ℕ) (p 
 slots-then ss ts us vs a b c p q r h f g =
     put-same a c p r (sentBytes ss us ++ sentBytes ts vs) (sentBytes (ss ++ ts) (us ++ vs)) (sym (sent-append ss ts us vs h))
     (put-then a b c p q r (sentBytes ss us) (sentBytes ts vs) f g)
+
+-- ---- bytes copied one by one
+
+pub copy-start : (l : List ℕ) (at : ℕ) → take (at + 0) l ≡ take at l ++ []
+copy-start l at =
+    let e : at + 0 ≡ at = omega arith in
+    ap (λ (n : ℕ). take n l) e ∙ sym (append-nil (take at l))
+
+pub copy-step : (before l s : List ℕ) (at from k : ℕ) → at + k < length l → from + k < length s → take (at + k) l ≡ take at before ++ take k (drop from s)
+    → take (at + (k + 1)) (set l (at + k) (getD s (from + k) 0)) ≡ take at before ++ take (k + 1) (drop from s)
+copy-step before l s at from k h g e =
+    let i : at + (k + 1) ≡ suc (at + k) = omega arith in
+    let inside : k < length (drop from s) = omega (arith, length-drop from s) in
+    ap (λ (n : ℕ). take n (set l (at + k) (getD s (from + k) 0))) i
+    ∙ take-suc-set l (at + k) (getD s (from + k) 0) h
+    ∙ ap (λ (x : List ℕ). x ++ (getD s (from + k) 0 ∷ [])) e
+    ∙ append-assoc (take at before) (take k (drop from s)) (getD s (from + k) 0 ∷ [])
+    ∙ ap (λ (x : List ℕ). take at before ++ x)
+    (ap (λ (v : ℕ). take k (drop from s) ++ (v ∷ [])) (sym (getD-drop from s k 0)) ∙ sym (take-suc (drop from s) k 0 inside) ∙ ap (λ (n : ℕ). take n (drop from s)) (sym (add-one k)))
+
+-- Of those that were copied, the first n.
+pub copy-end : (before l s : List ℕ) (at from n k : ℕ) → at ≤ length before → n ≤ k → from + k ≤ length s → length l ≡ length before
+    → take (at + k) l ≡ take at before ++ take k (drop from s) → Put before l at (at + n) (take n (drop from s))
+copy-end before l s at from n k h m g e q =
+    let there : length (take at before) ≡ at = length-take-le at before h in (
+      sym (take-take (at + n) (at + k) l (omega arith)) ∙ ap (take (at + n)) q
+          ∙ ap (λ (j : ℕ). take (j + n) (take at before ++ take k (drop from s))) (sym there)
+          ∙ take-append-add (take at before) (take k (drop from s)) n
+          ∙ ap (λ (x : List ℕ). take at before ++ x) (take-take n k (drop from s) m),
+      e,
+      omega (arith, length-take-le n (drop from s) (omega (arith, length-drop from s))),
+    )

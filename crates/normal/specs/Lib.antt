@@ -2,3 +2,4 @@ pub mod Put
 pub mod Sent
 pub mod Client
 pub mod Normal
+pub mod Kept

@@ -95,6 +95,7 @@ high-good high n h =
 -- What the block holds at a place behind the number n: an update that ends where the fields did, and fills in to their record.
 pub record QuickUpdate (d : List ℕ) (end at n : ℕ) (b : Baseline) (h : UpdateHead) (f : RecordAt) : Type 0 where
   pub high : ℕ
+  pub masked : h .mask ≡ high * 256 + n
   pub sent : List Value
   pub parsed : parse (updateLayout n) (drop at (take end d)) ≡ found (number high ∷ number (h .entity) ∷ sent) (drop (f .next) (take end d))
   pub filled : fillUpdate (baselineNumbers b) n (number high ∷ number (h .entity) ∷ sent)
@@ -166,6 +167,7 @@ module _ (d : List ℕ) (end at n : ℕ) (b : Baseline) (inside : end ≤ length
       let ef : f .next ≡ passed slots (bit mask) next = en ∙ ap₂ (λ (m x : ℕ). passed slots (bit m) x) em ex in
       record {
         high = high;
+        masked = em;
         sent = sent d slots (bit mask) next;
         parsed =
             head-parsed (rw em at low) (rw ee at known) (rw ef at l)

@@ -38,9 +38,10 @@ use Rattle.scene.specs.declared.Record.{Record}
 use Rattle.scene.specs.declared.Rest.{Rest}
 use Rattle.quick.proofs.QuickLaws.{QuickUpdate, quick-update}
 use Rattle.normal.specs.Put.{Put}
+use Rattle.normal.specs.Kept.{readOrAnew}
 use Rattle.blocks.specs.Runs.{refusedIn, Wrote, stored, put, wroteOf, runOf}
-use Rattle.blocks.proofs.Turns.{Moved, head-refused, head-found, moved-less, moved-short, moved-range, blockBytes, block-length, put-block-there, put-length, closed, closed-short, closed-fits, inside, on-refused, on-moved, on-end, run-over, run-refused, run-opened}
-use Rattle.blocks.proofs.Arms.{held, noBaseline, quick-moved, timed, ended-refused, kind-parsed, parsed-refused, parsed-less, update-parsed, update-known, update-moved, time-moved, client-moved, other-parsed, baseline-known, baseline-moved, serverinfo-moved, rest-moved}
+use Rattle.blocks.proofs.Turns.{Moved, front-kept, head-refused, head-found, moved-less, moved-short, moved-range, blockBytes, block-length, put-block-there, put-length, closed, closed-short, closed-fits, inside, on-refused, on-moved, on-end, run-over, run-refused, run-opened}
+use Rattle.blocks.proofs.Arms.{held, noBaseline, quick-moved, kept-form, timed, ended-refused, kind-parsed, parsed-refused, parsed-less, update-parsed, update-known, update-moved, time-moved, client-moved, other-parsed, baseline-known, baseline-moved, serverinfo-moved, rest-moved}
 use Rattle.blocks.proofs.write_blocks.Statement.{statement}
 use Rattle.blocks.proofs.write_blocks.Tie as tie
 use Rattle.blocks.proofs.write_blocks.Reads as reads
@@ -52,6 +53,7 @@ use Rattle.normal.proofs.put_client.Reads as put-client-reads
 use Rattle.normal.proofs.put_copy.Reads as put-copy-reads
 use Rattle.normal.proofs.put_other.Reads as put-other-reads
 use Rattle.normal.proofs.put_update.Reads as put-update-reads
+use Rattle.normal.proofs.put_read_update.Reads as put-read-update-reads
 use Rattle.blocks.proofs.refused_in.Reads as refused-in-reads
 use Rattle.heads.proofs.read_head.Reads as read-head-reads
 use Rattle.masked.proofs.clientdata_at.Reads as clientdata-at-reads
@@ -409,36 +411,86 @@ known c =
     let t = and-true (ltb (c .before .update-head .result .entity) 449) (ltb (c .before .update-head .result .mask) 32768) (c .if9 .taken) in
     (ltb-true _ _ (t .0), ltb-true _ _ (t .1))
 
-at-once : (c : tie.After-put-update Inv-loop2 μ-loop2 Inv-loop μ-loop)
-    → let m = c .before .before .before .before .before .before .before .before .before .before .before .before .before in
+small-here : (c : tie.After-record Inv-loop2 μ-loop2 Inv-loop μ-loop) → getD (body (inBlock (c .before .before .before .before .before .before .before .before .before .before .before))) (c .before .before .before .before .before .before .before .before .before .before .before .before .loop2 .at) 0 < 256
+small-here c = c .before .before .before .before .before .before .before .before .before .shared-slice-known2 .given (c .before .before .before .before .before .before .before .before .before .before .before .before .loop2 .at) .fits
+
+abbrev Found : tie.After-record Inv-loop2 μ-loop2 Inv-loop μ-loop → ℕ × Scene
+Found c =
+    let k = c .before .before .before .before .before .before .before .before .before .before .before .before .loop2 in
+    let i = c .before .before .before .before .before .update-head .result .entity in
+    let f = c .before .before .update-fields .result in
+    (f .next, held (k .baselines) (set (k .records) i (f .record)) (set (k .present) i true) (k .rest))
+
+quick-here : (c : tie.After-record Inv-loop2 μ-loop2 Inv-loop μ-loop)
+    → let m = c .before .before .before .before .before .before .before .before .before .before .before in
+    let k = m .before .loop2 in
+    let o = inBlock m in
+    let h = c .before .before .before .before .before .update-head .result in
+    QuickUpdate (input (blockOf o)) (end o) (k .at + 1) (getD (body o) (k .at) 0) (getD (k .baselines) (h .entity) noBaseline) h (c .before .before .update-fields .result)
+quick-here c =
+    let m = c .before .before .before .before .before .before .before .before .before .before .before in
+    let o = inBlock m in
+    let k = m .before .loop2 in
+    let h = c .before .before .before .before .before .update-head in
+    let f = c .before .before .update-fields in
+    let in? = known (c .before .before .before .before) in
+    quick-update (input (blockOf o)) (end o) (k .at + 1) (getD (body o) (k .at) 0) (getD (k .baselines) (h .result .entity) noBaseline) (within o) (small-here c) (h .result) (f .result) (h .ensures .0) (f .ensures .0) (f .ensures .1) (in? .1) (in? .0) (c .before .if10 .taken)
+
+abbrev formAt : (c : tie.After-record Inv-loop2 μ-loop2 Inv-loop μ-loop) → List ℕ
+formAt c =
+    let k = c .before .before .before .before .before .before .before .before .before .before .before .before .loop2 in
+    let i = c .before .before .before .before .before .update-head .result .entity in
+    print (layoutIn (scene (c .before .before .before .before .before .before .before .before .before .before .before))) (sendUpdate (baselineNumbers (getD (k .baselines) i noBaseline)) (number i ∷ recordValues (c .before .before .update-fields .result .record)))
+
+at-once : (c : tie.After-record Inv-loop2 μ-loop2 Inv-loop μ-loop)
+    → Moved (body (inBlock (c .before .before .before .before .before .before .before .before .before .before .before))) (scene (c .before .before .before .before .before .before .before .before .before .before .before)) (c .before .before .before .before .before .before .before .before .before .before .before .before .loop2 .at) (Found c .1) (Found c .0) (formAt c)
+at-once c =
+    let m = c .before .before .before .before .before .before .before .before .before .before .before in
+    let k = m .before .loop2 in
+    let q = quick-here c in
+    let f = c .before .before .update-fields .result in
+    quick-moved (body (inBlock m)) (k .at) (m .loop2-test .taken) (k .baselines) (k .records) (k .present) (k .rest) (c .before .before .before .before .before .before .before .before .before .before .if3 .left) (getD (body (inBlock m)) (k .at) 0) refl (c .before .before .before .before .before .before .before .if6 .left)
+    (q .high) (c .before .before .before .before .before .update-head .result .entity) (q .sent) (f .next) (f .record) (q .parsed) (q .filled)
+
+at-less : (c : tie.After-record Inv-loop2 μ-loop2 Inv-loop μ-loop) → c .before .before .before .before .before .before .before .before .before .before .before .before .loop2 .at < Found c .0
+at-less c =
+    let m = c .before .before .before .before .before .before .before .before .before .before .before in
+    let o = inBlock m in
+    omega (arith, moved-less (body o) (body-bytes o) (scene m) (m .before .loop2 .at) (Found c .1) (Found c .0) (formAt c) (at-once c))
+
+-- The update's bytes are the same in the input and in the block.
+front-here : (c : tie.After-record Inv-loop2 μ-loop2 Inv-loop μ-loop)
+    → let m = c .before .before .before .before .before .before .before .before .before .before .before in
+    let n = Found c .0 - m .before .loop2 .at in
+    take n (drop (m .before .loop2 .at) (input (blockOf (inBlock m)))) ≡ take n (drop (m .before .loop2 .at) (body (inBlock m)))
+front-here c =
+    let m = c .before .before .before .before .before .before .before .before .before .before .before in
+    let o = inBlock m in
+    front-kept (Found c .0 - m .before .loop2 .at) (m .before .loop2 .at) (end o) (input (blockOf o)) (omega (arith, at-less c, c .before .if10 .taken))
+
+step-once : (c : tie.After-put-read-update Inv-loop2 μ-loop2 Inv-loop μ-loop)
+    → let r = c .before .before in
+    let m = c .before .before .before .before .before .before .before .before .before .before .before .before .before in
     let k = m .before .loop2 in
     let i = c .before .before .before .before .before .before .before .update-head .result .entity in
     let f = c .before .before .before .before .update-fields .result in
-    Moved (body (inBlock m)) (scene m) (k .at) (held (k .baselines) (set (k .records) i (f .record)) (set (k .present) i true) (k .rest)) (f .next)
-    (print (layoutIn (scene m)) (sendUpdate (baselineNumbers (getD (k .baselines) i noBaseline)) (number i ∷ recordValues (f .record))))
-at-once c =
+    (filled : List ℕ) → ((x : Context) → Put (k .body) filled (k .size) (c .put-read-update .result) (cond (c .before .before .before .before .before .before .before .before .before .before .before .before .before .before .before .before .before .before .before .before .before .before .before .before .before .before .before .before .args .on) (readOrAnew x (baselineNumbers (getD (k .baselines) i noBaseline)) (number i ∷ recordValues (f .record)) (c .before .before .before .before .before .before .before .update-head .result .mask) (f .next - k .at) (drop (k .at) (input (blockOf (inBlock m))))) []))
+    → Step m (Found r .1) (Found r .0) filled (c .put-read-update .result)
+step-once c filled p =
+    let r = c .before .before in
     let m = c .before .before .before .before .before .before .before .before .before .before .before .before .before in
     let o = inBlock m in
     let k = m .before .loop2 in
-    let n = getD (body o) (k .at) 0 in
-    let h = c .before .before .before .before .before .before .before .update-head in
-    let f = c .before .before .before .before .update-fields in
-    let i = h .result .entity in
-    let b = getD (k .baselines) i noBaseline in
-    let in? = known (c .before .before .before .before .before .before) in
-    let q : QuickUpdate (input (blockOf o)) (end o) (k .at + 1) n b (h .result) (f .result) =
-    quick-update (input (blockOf o)) (end o) (k .at + 1) n b (within o) (c .before .before .before .before .before .before .before .before .before .before .before .shared-slice-known2 .given (k .at) .fits) (h .result) (f .result) (h .ensures .0) (f .ensures .0) (f .ensures .1) (in? .1) (in? .0) (c .before .before .before .if10 .taken) in
-    quick-moved (body o) (k .at) (m .loop2-test .taken) (k .baselines) (k .records) (k .present) (k .rest) (c .before .before .before .before .before .before .before .before .before .before .before .before .if3 .left) n refl (c .before .before .before .before .before .before .before .before .before .if6 .left)
-    (q .high) i (q .sent) (f .result .next) (f .result .record) (q .parsed) (q .filled)
-
-step-once : (c : tie.After-put-update Inv-loop2 μ-loop2 Inv-loop μ-loop)
-    → let m = c .before .before .before .before .before .before .before .before .before .before .before .before .before in
-    let k = m .before .loop2 in
     let i = c .before .before .before .before .before .before .before .update-head .result .entity in
     let f = c .before .before .before .before .update-fields .result in
-    (filled : List ℕ) → ((x : Context) → Put (k .body) filled (k .size) (c .put-update .result) (cond (c .before .before .before .before .before .before .before .before .before .before .before .before .before .before .before .before .before .before .before .before .before .before .before .before .before .before .before .before .args .on) (print (layout x) (sendUpdate (baselineNumbers (getD (k .baselines) i noBaseline)) (number i ∷ recordValues (f .record)))) []))
-    → Step m (held (k .baselines) (set (k .records) i (f .record)) (set (k .present) i true) (k .rest)) (f .next) filled (c .put-update .result)
-step-once c filled q = record { form = _; moved = at-once c; put = q (contextOf (scene (c .before .before .before .before .before .before .before .before .before .before .before .before .before))) }
+    let q = quick-here r in
+    let same = kept-form (body o) (k .at) (m .loop2-test .taken) (k .baselines) (k .records) (k .present) (k .rest) (c .before .before .before .before .before .before .before .before .before .before .before .before .if3 .left) (getD (body o) (k .at) 0) refl (c .before .before .before .before .before .before .before .before .before .if6 .left)
+    (q .high) i (q .sent) (f .next) (f .record) (q .parsed) (q .filled) (body-bytes o) (small-here r) (c .before .before .before .before .before .before .before .update-head .result .mask) (f .next - k .at) (drop (k .at) (input (blockOf o))) (q .masked) (front-here r) in
+    record {
+      form = formAt r;
+      moved = at-once r;
+      put = subst (λ (bs : List ℕ). Put (k .body) filled (k .size) (c .put-read-update .result) (cond (c .before .before .before .before .before .before .before .before .before .before .before .before .before .before .before .before .before .before .before .before .before .before .before .before .before .before .before .before .args .on) bs [])) same (p (contextOf (scene m)));
+    }
 
 -- ---- where a block is at its end
 
@@ -613,8 +665,8 @@ shared-slice-read-k : tie.Need-shared-slice-read-k Inv-loop2 μ-loop2 Inv-loop �
 shared-slice-read-k c = search needs
 
 -- src/lib.rt:128:21
-add-t73 : tie.Need-add-t73 Inv-loop2 μ-loop2 Inv-loop μ-loop
-add-t73 c = place-fits (c .before .before)
+add-t74 : tie.Need-add-t74 Inv-loop2 μ-loop2 Inv-loop μ-loop
+add-t74 c = place-fits (c .before .before)
 
 -- src/lib.rt:169:50
 context-requires : tie.Need-context-requires Inv-loop2 μ-loop2 Inv-loop μ-loop
@@ -779,13 +831,19 @@ array-copy-out-b c = known c .0
 update-fields-requires : tie.Need-update-fields-requires Inv-loop2 μ-loop2 Inv-loop μ-loop
 update-fields-requires c κs = omega (arith, c .before .before .update-head .ensures .1, c .before .before .before .if8 .taken)
 
--- src/lib.rt:143:55
-slice-aggregate-put-update : tie.Need-slice-aggregate-put-update Inv-loop2 μ-loop2 Inv-loop μ-loop
-slice-aggregate-put-update c = sym (c .before .before .before .before .before .before .before .before .before .before .before .before .before .loop2 .inv .2)
+-- src/lib.rt
+sub-len : tie.Need-sub-len Inv-loop2 μ-loop2 Inv-loop μ-loop
+sub-len c = omega (arith, at-less c)
 
--- src/lib.rt:143:33
-put-update-requires : tie.Need-put-update-requires Inv-loop2 μ-loop2 Inv-loop μ-loop
-put-update-requires c κs = omega (arith, c .before .before .before .before .before .before .before .before .before .before .before .before .before .loop2 .inv .1, c .before .before .before .before .before .before .before .before .before .before .before .before .before .loop2 .inv .2)
+-- src/lib.rt
+slice-aggregate-put-read-update : tie.Need-slice-aggregate-put-read-update Inv-loop2 μ-loop2 Inv-loop μ-loop
+slice-aggregate-put-read-update c = sym (c .before .before .before .before .before .before .before .before .before .before .before .before .before .loop2 .inv .2)
+
+-- src/lib.rt
+put-read-update-requires : tie.Need-put-read-update-requires Inv-loop2 μ-loop2 Inv-loop μ-loop
+put-read-update-requires c κs =
+    let k = c .before .before .before .before .before .before .before .before .before .before .before .before .before .loop2 in
+    (omega (arith, k .inv .1, k .inv .2), omega (arith, c .before .before .before .before .before .before .before .if8 .taken, here-inside (c .before .before .before .before .before .before .before .before .before .before .before .before)))
 
 -- src/lib.rt:144:33
 mul-records : tie.Need-mul-records Inv-loop2 μ-loop2 Inv-loop μ-loop
@@ -807,11 +865,11 @@ add-messages c = counts (c .before .before .before .before .before .before .befo
 loop2-less : tie.Need-loop2-less Inv-loop2 μ-loop2 Inv-loop μ-loop
 loop2-less c =
     let m = c .before .before .before .before .before .before .before .before .before .before .before .before .before .before in
-    moved-less (body (inBlock m)) (body-bytes (inBlock m)) (scene m) (m .before .loop2 .at) _ _ _ (at-once (c .before))
+    moved-less (body (inBlock m)) (body-bytes (inBlock m)) (scene m) (m .before .loop2 .at) _ _ _ (at-once (c .before .before .before))
 
 -- src/lib.rt:122:9
 loop2-again : tie.Need-loop2-again Inv-loop2 μ-loop2 Inv-loop μ-loop
-loop2-again c = step-again (c .before .before .before .before .before .before .before .before .before .before .before .before .before .before) _ _ _ _ (step-once (c .before) _ (c .before .put-update .ensures))
+loop2-again c = step-again (c .before .before .before .before .before .before .before .before .before .before .before .before .before .before) _ _ _ _ (step-once (c .before) _ (c .before .put-read-update .ensures))
 
 -- src/lib.rt:152:25
 read-update-requires : tie.Need-read-update-requires Inv-loop2 μ-loop2 Inv-loop μ-loop
@@ -853,13 +911,13 @@ fill-update-requires : tie.Need-fill-update-requires Inv-loop2 μ-loop2 Inv-loop
 fill-update-requires c κs = search needs
 
 -- src/lib.rt:163:43
-slice-aggregate-put-update-2 :
-    tie.Need-slice-aggregate-put-update-2 Inv-loop2 μ-loop2 Inv-loop μ-loop
-slice-aggregate-put-update-2 c = sym (c .before .before .before .before .before .before .before .before .before .before .before .before .before .before .before .loop2 .inv .2)
+slice-aggregate-put-update :
+    tie.Need-slice-aggregate-put-update Inv-loop2 μ-loop2 Inv-loop μ-loop
+slice-aggregate-put-update c = sym (c .before .before .before .before .before .before .before .before .before .before .before .before .before .before .before .loop2 .inv .2)
 
 -- src/lib.rt:163:21
-put-update-requires-2 : tie.Need-put-update-requires-2 Inv-loop2 μ-loop2 Inv-loop μ-loop
-put-update-requires-2 c κs = omega (arith, c .before .before .before .before .before .before .before .before .before .before .before .before .before .before .before .loop2 .inv .1, c .before .before .before .before .before .before .before .before .before .before .before .before .before .before .before .loop2 .inv .2)
+put-update-requires : tie.Need-put-update-requires Inv-loop2 μ-loop2 Inv-loop μ-loop
+put-update-requires c κs = omega (arith, c .before .before .before .before .before .before .before .before .before .before .before .before .before .before .before .loop2 .inv .1, c .before .before .before .before .before .before .before .before .before .before .before .before .before .before .before .loop2 .inv .2)
 
 -- src/lib.rt:164:21
 mul-records-2 : tie.Need-mul-records-2 Inv-loop2 μ-loop2 Inv-loop μ-loop
@@ -1007,7 +1065,7 @@ write-blocks-spec =
     same-length
     returns
     shared-slice-read-k
-    add-t73
+    add-t74
     context-requires
     time-at-requires
     refused-in-requires-2
@@ -1043,8 +1101,9 @@ write-blocks-spec =
     mul-b
     array-copy-out-b
     update-fields-requires
-    slice-aggregate-put-update
-    put-update-requires
+    sub-len
+    slice-aggregate-put-read-update
+    put-read-update-requires
     mul-records
     array-set-from-records
     array-write-present
@@ -1059,8 +1118,8 @@ write-blocks-spec =
     mul-b-2
     array-copy-out-b-2
     fill-update-requires
-    slice-aggregate-put-update-2
-    put-update-requires-2
+    slice-aggregate-put-update
+    put-update-requires
     mul-records-2
     array-set-from-records-2
     array-write-present-2

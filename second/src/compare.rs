@@ -1,6 +1,7 @@
 //! Runs any program beside this reader and says where their answers differ.
 
-use crate::gen::{self, Input};
+use crate::gen::rng::Rng;
+use crate::gen::{self, encode, Input};
 use crate::message::Refusal;
 use crate::read::read_recording;
 use crate::text::scene_text;
@@ -28,6 +29,8 @@ pub struct Options {
     pub recordings: Vec<PathBuf>,
     /// Feed the program through a pipe in odd-sized pieces.
     pub pipe: bool,
+    /// Run the program on each normal form and on another encoding of each reading too.
+    pub again: bool,
     pub program: Vec<String>,
 }
 
@@ -106,6 +109,29 @@ impl Runner<'_> {
         if answer != expected {
             let message = difference(&expected, &answer);
             self.report(name, bytes, &message)?;
+        }
+        if self.options.again && expected.err.is_empty() {
+            self.again(name, bytes, &expected)?;
+        }
+        Ok(())
+    }
+
+    /// The normal form of a normal form, and of another encoding of the same reading.
+    fn again(&mut self, name: &str, bytes: &[u8], normal: &Answer) -> io::Result<()> {
+        let Ok(reading) = read_recording(bytes).reading() else { return Ok(()) };
+        let other =
+            encode::wasteful(&reading, &mut Rng::new(self.options.seed, bytes.len() as u64));
+        let mut inputs = vec![("its normal form", normal.out.clone())];
+        // a needless field may make a block too long
+        if read_recording(&other).refusal.is_none() {
+            inputs.push(("another encoding", other));
+        }
+        for (what, input) in inputs {
+            let answer = self.run(&input)?;
+            if answer != *normal {
+                let message = difference(normal, &answer);
+                self.report(&format!("{name}, {what}"), &input, &message)?;
+            }
         }
         Ok(())
     }

@@ -14,7 +14,8 @@ const USAGE: &str = "usage:
   second mix NAME SIZE_MB           a big made recording
   second bench [FILE...]            times reading and normalising
   second compare [--mode normal|scene] [--count N] [--first I] [--seed S]
-                 [--keep DIR] [--pipe] [--no-recordings] PROGRAM [ARGS..]";
+                 [--keep DIR] [--pipe] [--again] [--no-recordings]
+                 PROGRAM [ARGS..]";
 
 type Outcome = Result<ExitCode, Box<dyn std::error::Error>>;
 
@@ -121,6 +122,7 @@ fn compare_options(args: &[&str]) -> Result<Options, Box<dyn std::error::Error>>
         keep: Path::new(env!("CARGO_MANIFEST_DIR")).join("target/differences"),
         recordings: compare::recordings_in(&compare::recordings_folder()),
         pipe: false,
+        again: false,
         program: Vec::new(),
     };
     let mut args = args.iter().copied();
@@ -139,6 +141,7 @@ fn compare_options(args: &[&str]) -> Result<Options, Box<dyn std::error::Error>>
             "--count" => options.count = value()?.parse()?,
             "--keep" => options.keep = value()?.into(),
             "--pipe" => options.pipe = true,
+            "--again" => options.again = true,
             "--no-recordings" => options.recordings.clear(),
             program => {
                 options.program.push(program.into());

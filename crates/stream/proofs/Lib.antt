@@ -1,0 +1,4 @@
+pub mod PlaceLaws
+pub mod PieceLaws
+pub mod LineLaws
+pub mod AnswerLaws

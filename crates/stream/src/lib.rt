@@ -1,0 +1,123 @@
+// A recording that is read in pieces, in normal form: the work on one piece. None of these has a `requires`.
+ghost use mathlib.Core.Path.{_≡_};
+ghost use Prim.Native.Nat.{_≤_};
+ghost use lib.ListN.{length};
+ghost use Rattle.scene.specs.Views.{sceneOf};
+ghost use Rattle.stream.specs.Pieces.{placeBehind, refusalPlace, pieceAt, firstLine};
+ghost use Rattle.stream.specs.Pieces.{standing as Pieces·standing};
+ghost use Rattle.stream.specs.Views.{pieceView, lineView};
+use cobbrundle::RewriteAnswer;
+use cobbrundle::TrackNormalAnswer;
+use scene::Scene;
+
+const GREATEST: usize = 18446744073709551615;
+
+// A place in bytes that so many others stand before, at most the greatest number.
+pub fn place_behind(before: usize, place: usize) -> usize
+    ensures { λ r. ⌜ r ≡ placeBehind before place ⌝ }
+{
+    if GREATEST - before < place {
+        return GREATEST;
+    }
+    before + place
+}
+
+// That a block is cut is no refusal where more bytes may follow.
+fn standing(last: bool, refusal: u8) -> u8
+    ensures { λ r. ⌜ r ≡ Pieces·standing last refusal ⌝ }
+{
+    if !last & (refusal == 2) {
+        return 0;
+    }
+    refusal
+}
+
+// The place of a refusal counts from the recording's first byte; that of short room is the length needed.
+fn refusal_place(before: usize, refusal: u8, place: usize) -> usize
+    ensures { λ r. ⌜ r ≡ refusalPlace before refusal place ⌝ }
+{
+    if refusal == 12 {
+        return place;
+    }
+    place_behind(before, place)
+}
+
+// Of a piece of a recording: the scene after it; the number of its bytes that were used, and of those written; the refusal met behind them,
+// 0 for none, and its place.
+pub struct Piece {
+    pub scene: Scene,
+    pub used: usize,
+    pub written: usize,
+    pub refusal: u8,
+    pub place: usize,
+}
+
+// The normal forms of the blocks in a piece, in the scene that those before it left. So many bytes of the recording stand before the piece;
+// `last` says that none follow.
+pub fn normal_piece(scene: Scene, bytes: &[u8], last: bool, before: usize, room: &mut [u8]) -> Piece
+    ensures { λ r. ⌜ pieceView r (now (room .exit)) ≡ pieceAt (sceneOf scene) (now (bytes .entry)) last before (now (room .entry)) ⌝ }
+    ensures within { λ r. ⌜ (r .used ≤ length (now (bytes .entry))) × (r .written ≤ length (now (room .entry))) ⌝ }
+{
+    let reply = cobbrundle::normal_blocks_at(scene, bytes, 0, room);
+    let answer = reply.answer;
+    let after = reply.scene;
+    match answer {
+        RewriteAnswer::Written(w) => {
+            let p = w.progress;
+            let refusal = p.refusal;
+            Piece {
+                scene: after,
+                used: p.next,
+                written: w.length,
+                refusal: standing(last, refusal),
+                place: refusal_place(before, refusal, p.place),
+            }
+        }
+        RewriteAnswer::Refused(refusal, place) => Piece {
+            scene: after,
+            used: 0,
+            written: 0,
+            refusal,
+            place,
+        },
+    }
+}
+
+// Of the first piece of a recording: as `Piece`, of its track line.
+pub struct FirstLine {
+    pub used: usize,
+    pub written: usize,
+    pub refusal: u8,
+    pub place: usize,
+}
+
+// The normal form of the track line in a recording's first piece. Nothing is decided where bytes may follow and the piece is shorter than a
+// line may be.
+pub fn first_line(bytes: &[u8], last: bool, room: &mut [u8]) -> FirstLine
+    ensures { λ r. ⌜ lineView r (now (room .exit)) ≡ firstLine (now (bytes .entry)) last (now (room .entry)) ⌝ }
+    ensures within { λ r. ⌜ (r .used ≤ length (now (bytes .entry))) × (r .written ≤ length (now (room .entry))) ⌝ }
+{
+    if !last & (bytes.len() < 5) {
+        return FirstLine {
+            used: 0,
+            written: 0,
+            refusal: 0,
+            place: 0,
+        };
+    }
+    let answer = cobbrundle::normal_track(bytes, room);
+    match answer {
+        TrackNormalAnswer::Written(written, next) => FirstLine {
+            used: next,
+            written,
+            refusal: 0,
+            place: next,
+        },
+        TrackNormalAnswer::Refused(refusal, place) => FirstLine {
+            used: 0,
+            written: 0,
+            refusal,
+            place,
+        },
+    }
+}

@@ -1,10 +1,11 @@
 -- A field by a bit of the mask, as code picks it.
 -- Assumes nothing.
-use mathlib.Core.Path.{_≡_, refl, ap, ap₂, _∙_}
-use mathlib.Core.List.{List, _∷_, _++_}
-use mathlib.Core.Bool.{Bool, true, false}
+use mathlib.Core.Path.{_≡_, refl, sym, ap, ap₂, _∙_}
+use mathlib.Core.List.{List, [], _∷_, _++_}
+use mathlib.Core.Bool.{Bool, true, false, cond, _||_}
 use Prim.Native.Nat.{ℕ, zero, suc, _+_, _*_, _/_, _%_, _^_, _<_, _≤_}
 use native.Mathlib.Omega.{arith}
+use lib.Dec.{eqb}
 use lib.IntN.{ℤ}
 use lib.ListN.{length, take, drop, getD}
 use lib.Signed.{mag}
@@ -13,16 +14,11 @@ use mir.Val.{ofZ, toZ, hbits}
 use Rattle.dem.specs.Bytes.{leRead, isSet, bit, bitOf}
 use Rattle.dem.specs.Layout.{Value, number}
 use Rattle.dem.specs.Masked.{Slot, Mask, isSent}
-use Rattle.dem.specs.Message.{highBit, wideBit, updateSlots}
+use Rattle.dem.specs.Message.{highBit, wideBit}
 use Rattle.dem.proofs.ByteLaws.{bit-div}
 use Rattle.dem.proofs.AtLaws.{one-at, two-at}
 use Rattle.wire.proofs.SignedLaws.{same-bits}
-use Rattle.message.specs.declared.Look.{Look}
-use Rattle.message.specs.declared.Pose.{Pose}
-use Rattle.message.specs.Values.{lookValues, poseValues}
-use Rattle.scene.specs.Views.{baselineNumbers}
-use Rattle.scene.specs.declared.Baseline.{Baseline}
-use Rattle.quick.specs.Spread.{fieldOr, behind, spread, passed, lookSlots, poseSlots}
+use Rattle.quick.specs.Spread.{fieldOr, behind, needlessOr, spread, passed, needlessIn}
 use Rattle.quick.specs.Heads.{highAt, maskAt, entityWidth, headAt}
 use Rattle.quick.specs.declared.UpdateHead.{UpdateHead}
 
@@ -37,28 +33,31 @@ bit-set m k h = bit-div m k ∙ set-one (m / 2 ^ k % 2) h
 pub bit-clear : (m k : ℕ) → m / 2 ^ k % 2 ≡ 0 → bit m k ≡ false
 bit-clear m k h = bit-div m k ∙ ap isSet h
 
-module _ (d : List ℕ) (at : ℕ) (sent : Bool) (w other : ℕ) where
-  pub field-sent : (v : ℕ) → sent ≡ true → v ≡ leRead (take w (drop at d)) → v ≡ fieldOr d at sent w other
-  unfolding fieldOr
-  field-sent v e h = rw e h
+-- Bits 10 to 13, by one test.
+pub four-clear : (m : ℕ) → m / 2 ^ 10 % 16 ≡ 0 → (bit m 10 ≡ false) × (bit m 11 ≡ false) × (bit m 12 ≡ false) × (bit m 13 ≡ false)
+four-clear m h = (bit-clear m 10 (omega arith), bit-clear m 11 (omega arith), bit-clear m 12 (omega arith), bit-clear m 13 (omega arith))
 
-  pub field-other : sent ≡ false → other ≡ fieldOr d at sent w other
-  unfolding fieldOr
-  field-other e = rw e
+-- A field's value, the place behind it, and whether it or one before it was sent needlessly.
+abbrev pub Picks : List ℕ → ℕ → Bool → ℕ → ℕ → Bool → ℕ → ℕ → Bool → Type 0
+Picks d at sent w other before v next n =
+    (v ≡ fieldOr d at sent w other) × (next ≡ behind at sent w) × (n ≡ needlessOr before d at sent w other)
 
-pub behind-sent : (at w : ℕ) (sent : Bool) → sent ≡ true → at + w ≡ behind at sent w
-unfolding behind
-behind-sent at w sent e = rw e
+module _ (d : List ℕ) (at : ℕ) (sent : Bool) (w other : ℕ) (before : Bool) where
+  pub field-sent : (v : ℕ) → sent ≡ true → v ≡ leRead (take w (drop at d)) → Picks d at sent w other before v (at + w) (before || eqb v other)
+  unfolding fieldOr behind needlessOr
+  field-sent v e h = rw e (h, refl, ap (λ (x : ℕ). before || eqb x other) h)
 
-pub behind-other : (at w : ℕ) (sent : Bool) → sent ≡ false → at ≡ behind at sent w
-unfolding behind
-behind-other at w sent e = rw e (omega arith)
+  pub field-other : sent ≡ false → Picks d at sent w other before other at before
+  unfolding fieldOr behind needlessOr
+  field-other e = rw e (refl, omega arith, refl)
 
 -- A signed field, its default handed on and its value too.
-pub signed-field : (w : Width) (d : List ℕ) (at : ℕ) (sent : Bool) (n : ℕ) (v o : ℤ) → mag v < 2 ^ hbits w → mag o < 2 ^ hbits w
-    → ofZ w v ≡ fieldOr d at sent n (ofZ w (toZ w (ofZ w o))) → ofZ w (toZ w (ofZ w v)) ≡ fieldOr d at sent n (ofZ w o)
-signed-field w d at sent n v o fv fo e =
-    same-bits w v _ (record { sfits = fv }) (e ∙ ap (fieldOr d at sent n) (same-bits w o _ (record { sfits = fo }) refl))
+pub signed-picks : (w : Width) (d : List ℕ) (at : ℕ) (sent : Bool) (n : ℕ) (before : Bool) (v o : ℤ) (next : ℕ) (flag : Bool)
+    → mag v < 2 ^ hbits w → mag o < 2 ^ hbits w → Picks d at sent n (ofZ w (toZ w (ofZ w o))) before (ofZ w v) next flag
+    → Picks d at sent n (ofZ w o) before (ofZ w (toZ w (ofZ w v))) next flag
+signed-picks w d at sent n before v o next flag fv fo p =
+    let e : ofZ w (toZ w (ofZ w o)) ≡ ofZ w o = same-bits w o _ (record { sfits = fo }) refl in
+    (same-bits w v _ (record { sfits = fv }) (p .0 ∙ ap (fieldOr d at sent n) e), p .1, p .2 ∙ ap (needlessOr before d at sent n) e)
 
 -- ---- the head
 
@@ -88,38 +87,63 @@ module _ (d : List ℕ) (at low h q m lo hi next : ℕ) where
 
 -- ---- slots in turn
 
--- Values and the place behind them, as slots say.
-abbrev pub Spreads : List ℕ → List Slot → Mask → ℕ → List Value → ℕ → Type 0
-Spreads d ss mask at vs end = (vs ≡ spread d ss mask at) × (end ≡ passed ss mask at)
+-- Values, the place behind them, and whether one was sent needlessly, as slots say.
+abbrev pub Spreads : List ℕ → List Slot → Mask → ℕ → Bool → List Value → ℕ → Bool → Type 0
+Spreads d ss mask at before vs end n =
+    (vs ≡ spread d ss mask at) × (end ≡ passed ss mask at) × (n ≡ needlessIn d ss mask at before)
 
 -- One slot, then others.
-pub slot-then : (d : List ℕ) (mask : Mask) (s : Slot) (ss : List Slot) (at v next : ℕ) (vs : List Value) (end : ℕ)
-    → v ≡ fieldOr d at (isSent s mask) (s .width) (s .default) → next ≡ behind at (isSent s mask) (s .width) → Spreads d ss mask next vs end
-    → Spreads d (s ∷ ss) mask at (number v ∷ vs) end
-slot-then d mask s ss at v next vs end ev en e =
-    let later = e .0 ∙ ap (λ (p : ℕ). spread d ss mask p) en in
-    ((λ i. number (ev i) ∷ later i), e .1 ∙ ap (λ (p : ℕ). passed ss mask p) en)
+slot-next : (d : List ℕ) (mask : Mask) (s : Slot) (ss : List Slot) (at : ℕ) (before : Bool) (v next : ℕ) (n : Bool) (vs : List Value) (end : ℕ) (n′ : Bool)
+    → v ≡ fieldOr d at (isSent s mask) (s .width) (s .default) → next ≡ behind at (isSent s mask) (s .width)
+    → n ≡ cond (s .always) before (needlessOr before d at (isSent s mask) (s .width) (s .default)) → Spreads d ss mask next n vs end n′
+    → Spreads d (s ∷ ss) mask at before (number v ∷ vs) end n′
+slot-next d mask s ss at before v next n vs end n′ ev ex en e =
+    let later = e .0 ∙ ap (λ (p : ℕ). spread d ss mask p) ex in
+    ((λ i. number (ev i) ∷ later i), e .1 ∙ ap (λ (p : ℕ). passed ss mask p) ex, e .2 ∙ (λ i. needlessIn d ss mask (ex i) (en i)))
 
--- ---- the fields: look, effects, pose
+pub slot-then : (d : List ℕ) (mask : Mask) (s : Slot) (ss : List Slot) (at : ℕ) (before : Bool) (v next : ℕ) (n : Bool) (vs : List Value) (end : ℕ) (n′ : Bool)
+    → s .always ≡ false → Picks d at (isSent s mask) (s .width) (s .default) before v next n → Spreads d ss mask next n vs end n′
+    → Spreads d (s ∷ ss) mask at before (number v ∷ vs) end n′
+slot-then d mask s ss at before v next n vs end n′ a p =
+    slot-next d mask s ss at before v next n vs end n′ (p .0) (p .1)
+    (p .2 ∙ ap (λ (a : Bool). cond a before (needlessOr before d at (isSent s mask) (s .width) (s .default))) (sym a))
 
-module _ (d : List ℕ) (mask : ℕ) (b : Baseline) (l : Look) (e : ℕ) (p : Pose) (at x y z : ℕ)
-    (el : lookValues l ≡ spread d (lookSlots (b .look)) (bit mask) at) (ex : x ≡ passed (lookSlots (b .look)) (bit mask) at)
-    (ee : e ≡ fieldOr d x (bit mask 13) 1 0) (ey : y ≡ behind x (bit mask 13) 1)
-    (ep : poseValues p ≡ spread d (poseSlots (b .pose)) (bit mask) y) (ez : z ≡ passed (poseSlots (b .pose)) (bit mask) y) where
-  first : ℕ
-  first = passed (lookSlots (b .look)) (bit mask) at
+-- One that is sent always, then others.
+pub slot-always : (d : List ℕ) (mask : Mask) (s : Slot) (ss : List Slot) (at : ℕ) (before : Bool) (v : ℕ) (vs : List Value) (end : ℕ) (n : Bool)
+    → s .always ≡ true → v ≡ leRead (take (s .width) (drop at d)) → Spreads d ss mask (at + s .width) before vs end n
+    → Spreads d (s ∷ ss) mask at before (number v ∷ vs) end n
+slot-always d mask s ss at before v vs end n a h =
+    let p = field-sent d at (isSent s mask) (s .width) (s .default) before v (ap (λ (a : Bool). a || mask (s .bit)) a) h in
+    slot-next d mask s ss at before v (at + s .width) before vs end n (p .0) (p .1)
+    (ap (λ (a : Bool). cond a before (needlessOr before d at (isSent s mask) (s .width) (s .default))) (sym a))
 
-  second : y ≡ behind first (bit mask 13) 1
-  unfolding first
-  second = ey ∙ ap (λ (x : ℕ). behind x (bit mask 13) 1) ex
+-- One that is not sent, then others.
+pub slot-unsent : (d : List ℕ) (mask : Mask) (s : Slot) (ss : List Slot) (at : ℕ) (before : Bool) (vs : List Value) (end : ℕ) (n : Bool)
+    → s .always ≡ false → isSent s mask ≡ false → Spreads d ss mask at before vs end n
+    → Spreads d (s ∷ ss) mask at before (number (s .default) ∷ vs) end n
+slot-unsent d mask s ss at before vs end n a u =
+    slot-then d mask s ss at before (s .default) at before vs end n a (field-other d at (isSent s mask) (s .width) (s .default) before u)
 
-  pub fields-joined : lookValues l ++ (number e ∷ poseValues p) ≡ spread d (updateSlots (baselineNumbers b)) (bit mask) at
-  unfolding first
-  fields-joined =
-      let ee′ = ee ∙ ap (λ (x : ℕ). fieldOr d x (bit mask 13) 1 0) ex in
-      let ep′ = ep ∙ ap (λ (y : ℕ). spread d (poseSlots (b .pose)) (bit mask) y) second in
-      λ i. el i ++ (number (ee′ i) ∷ ep′ i)
+-- Slots, then others.
+pub slots-then : (d : List ℕ) (mask : Mask) (rs ss : List Slot) (at : ℕ) (before : Bool) (us : List Value) (next : ℕ) (n : Bool) (vs : List Value) (end : ℕ) (n′ : Bool)
+    → Spreads d rs mask at before us next n → Spreads d ss mask next n vs end n′ → Spreads d (rs ++ ss) mask at before (us ++ vs) end n′
+slots-then d mask rs ss at before us next n vs end n′ p e = (
+  (λ i. p .0 i ++ (e .0 ∙ ap (λ (x : ℕ). spread d ss mask x) (p .1)) i) ∙ spread-append rs at,
+  e .1 ∙ ap (λ (x : ℕ). passed ss mask x) (p .1) ∙ passed-append rs at,
+  e .2 ∙ (λ i. needlessIn d ss mask (p .1 i) (p .2 i)) ∙ needless-append rs at before,
+)
+  where
+    spread-append : (rs : List Slot) (at : ℕ) → spread d rs mask at ++ spread d ss mask (passed rs mask at) ≡ spread d (rs ++ ss) mask at
+    spread-append [] at = refl
+    spread-append (r ∷ rs) at =
+        ap (λ (vs : List Value). number (fieldOr d at (isSent r mask) (r .width) (r .default)) ∷ vs) (spread-append rs (behind at (isSent r mask) (r .width)))
 
-  pub places-joined : z ≡ passed (updateSlots (baselineNumbers b)) (bit mask) at
-  unfolding first
-  places-joined = ez ∙ ap (λ (y : ℕ). passed (poseSlots (b .pose)) (bit mask) y) second
+    passed-append : (rs : List Slot) (at : ℕ) → passed ss mask (passed rs mask at) ≡ passed (rs ++ ss) mask at
+    passed-append [] at = refl
+    passed-append (r ∷ rs) at = passed-append rs (behind at (isSent r mask) (r .width))
+
+    needless-append : (rs : List Slot) (at : ℕ) (b : Bool)
+        → needlessIn d ss mask (passed rs mask at) (needlessIn d rs mask at b) ≡ needlessIn d (rs ++ ss) mask at b
+    needless-append [] at b = refl
+    needless-append (r ∷ rs) at b =
+        needless-append rs (behind at (isSent r mask) (r .width)) (cond (r .always) b (needlessOr b d at (isSent r mask) (r .width) (r .default)))

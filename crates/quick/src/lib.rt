@@ -1,20 +1,32 @@
 // An update's fields where enough bytes follow that each can be loaded before the mask says whether it is sent: no field needs a
 // branch of its own, and the place behind the last says whether all that were sent lie in the block.
 ghost use mathlib.Core.Path.{_≡_};
+ghost use mathlib.Core.List.{[], _∷_, _++_};
+ghost use mathlib.Core.Bool.{false};
 ghost use Prim.Native.Nat.{_+_, _<_, _≤_};
-ghost use lib.ListN.{length};
+ghost use lib.ListN.{length, take, drop};
 ghost use mir.Val.{ofZ};
-ghost use mir.Syntax.{w8, w16};
-ghost use Rattle.dem.specs.Bytes.{bit};
-ghost use Rattle.dem.specs.Message.{updateSlots};
-ghost use Rattle.message.specs.Values.{lookValues, poseValues};
-ghost use Rattle.scene.specs.Views.{baselineNumbers, recordValues};
-ghost use Rattle.quick.specs.Spread.{fieldOr, behind, spread, passed, lookSlots, poseSlots, filledAt};
+ghost use mir.Syntax.{w8, w16, w32};
+ghost use Rattle.dem.specs.Kind;
+ghost use Rattle.dem.specs.Bytes.{leRead, bit};
+ghost use Rattle.dem.specs.Layout.{number};
+ghost use Rattle.dem.specs.Masked.{Mask};
+ghost use Rattle.dem.specs.Scene.{Context};
+ghost use Rattle.dem.specs.Message.{updateSlots, clientSlots};
+ghost use Rattle.wire.specs.Cursors.{gotten};
+ghost use Rattle.message.specs.Values.{lookValues, poseValues, motionValues, armsValues, suppliesValues};
+ghost use Rattle.scene.specs.Views.{baselineNumbers, recordValues, clientValues};
+ghost use Rattle.quick.specs.Spread.{fieldOr, behind, needlessOr, spread, passed, needlessIn, lookSlots, poseSlots, filledAt, suppliesSlots, clientFields, clientIn, clientAt};
 ghost use Rattle.quick.specs.Heads.{headAt};
+use message::Arms;
 use message::Look;
+use message::Motion;
 use message::Pose;
+use message::Supplies;
 use scene::Baseline;
+use scene::Client;
 use scene::Record;
+use wire::Cursor;
 
 fn wide(x: u8) -> u16
     ensures { λ r. ⌜ r ≡ x ⌝ }
@@ -22,77 +34,99 @@ fn wide(x: u8) -> u16
     x as u16
 }
 
-// ---- a field where bit k of the mask is set, or else the value given, at three types; and the place behind it
+fn word_in(d: &[u8], at: usize) -> u16
+    requires { ⌜ at + 2 ≤ length (now d) ⌝ }
+    ensures { λ r. ⌜ r ≡ leRead (take 2 (drop at (now (d .entry)))) ⌝ }
+{
+    wide(d[at + 1]) * 256 + wide(d[at])
+}
+
+// ---- a field where bit k of the mask is set, or else the value given, at three types; the place behind it, and whether it, or a field
+// before it, was sent needlessly
 
 struct ByteOr {
     value: u8,
     next: usize,
+    needless: bool,
 }
 
 struct CharOr {
     value: i8,
     next: usize,
+    needless: bool,
 }
 
 struct ShortOr {
     value: i16,
     next: usize,
+    needless: bool,
 }
 
-fn byte_or(d: &[u8], at: usize, mask: u16, k: u16, other: u8) -> ByteOr
+fn byte_or(d: &[u8], at: usize, mask: u16, k: u16, other: u8, needless: bool) -> ByteOr
     requires { ⌜ (at < length (now d)) × (k < 16) ⌝ }
     ensures { λ r. ⌜ r .value ≡ fieldOr (now (d .entry)) at (bit mask k) 1 other ⌝ }
     ensures place { λ r. ⌜ r .next ≡ behind at (bit mask k) 1 ⌝ }
+    ensures flag { λ r. ⌜ r .needless ≡ needlessOr needless (now (d .entry)) at (bit mask k) 1 other ⌝ }
     ensures near { λ r. ⌜ r .next ≤ at + 1 ⌝ }
 {
-    let v = d[at];
     if (mask >> k) % 2 != 0 {
+        let v = d[at];
         return ByteOr {
             value: v,
             next: at + 1,
+            needless: needless | (v == other),
         };
     }
     ByteOr {
         value: other,
         next: at,
+        needless,
     }
 }
 
-fn char_or(d: &[u8], at: usize, mask: u16, k: u16, other: i8) -> CharOr
+fn char_or(d: &[u8], at: usize, mask: u16, k: u16, other: i8, needless: bool) -> CharOr
     requires { ⌜ (at < length (now d)) × (k < 16) ⌝ }
     ensures { λ r. ⌜ ofZ w8 (r .value) ≡ fieldOr (now (d .entry)) at (bit mask k) 1 (ofZ w8 other) ⌝ }
     ensures place { λ r. ⌜ r .next ≡ behind at (bit mask k) 1 ⌝ }
+    ensures flag { λ r. ⌜ r .needless ≡ needlessOr needless (now (d .entry)) at (bit mask k) 1 (ofZ w8 other) ⌝ }
     ensures near { λ r. ⌜ r .next ≤ at + 1 ⌝ }
 {
-    let v = wire::signed8(d[at]);
     if (mask >> k) % 2 != 0 {
+        let v = d[at];
+        let value = wire::signed8(v);
         return CharOr {
-            value: v,
+            value,
             next: at + 1,
+            needless: needless | (v == pieces::unsigned8(other)),
         };
     }
     CharOr {
         value: other,
         next: at,
+        needless,
     }
 }
 
-fn short_or(d: &[u8], at: usize, mask: u16, k: u16, other: i16) -> ShortOr
+fn short_or(d: &[u8], at: usize, mask: u16, k: u16, other: i16, needless: bool) -> ShortOr
     requires { ⌜ (at + 1 < length (now d)) × (k < 16) ⌝ }
     ensures { λ r. ⌜ ofZ w16 (r .value) ≡ fieldOr (now (d .entry)) at (bit mask k) 2 (ofZ w16 other) ⌝ }
     ensures place { λ r. ⌜ r .next ≡ behind at (bit mask k) 2 ⌝ }
+    ensures flag { λ r. ⌜ r .needless ≡ needlessOr needless (now (d .entry)) at (bit mask k) 2 (ofZ w16 other) ⌝ }
     ensures near { λ r. ⌜ r .next ≤ at + 2 ⌝ }
 {
-    let v = wire::signed16(wide(d[at + 1]) * 256 + wide(d[at]));
     if (mask >> k) % 2 != 0 {
+        let v = word_in(d, at);
+        let value = wire::signed16(v);
         return ShortOr {
-            value: v,
+            value,
             next: at + 2,
+            needless: needless | (v == pieces::unsigned16(other)),
         };
     }
     ShortOr {
         value: other,
         next: at,
+        needless,
     }
 }
 
@@ -100,44 +134,82 @@ fn short_or(d: &[u8], at: usize, mask: u16, k: u16, other: i16) -> ShortOr
 
 struct LookOr {
     look: Look,
+    effects: u8,
     next: usize,
+    needless: bool,
 }
 
 struct PoseOr {
     pose: Pose,
     next: usize,
+    needless: bool,
 }
 
-fn look_or(d: &[u8], at: usize, mask: u16, other: Look) -> LookOr
-    requires { ⌜ at + 4 ≤ length (now d) ⌝ }
-    ensures { λ r. ⌜ lookValues (r .look) ≡ spread (now (d .entry)) (lookSlots other) (bit mask) at ⌝ }
+// A look, then effects, of which each is sent or not.
+fn every_look(d: &[u8], at: usize, mask: u16, other: Look) -> LookOr
+    requires { ⌜ at + 5 ≤ length (now d) ⌝ }
+    ensures { λ r. ⌜ lookValues (r .look) ++ (number (r .effects) ∷ []) ≡ spread (now (d .entry)) (lookSlots other) (bit mask) at ⌝ }
     ensures place { λ r. ⌜ r .next ≡ passed (lookSlots other) (bit mask) at ⌝ }
-    ensures near { λ r. ⌜ r .next ≤ at + 4 ⌝ }
+    ensures flag { λ r. ⌜ r .needless ≡ needlessIn (now (d .entry)) (lookSlots other) (bit mask) at false ⌝ }
+    ensures near { λ r. ⌜ r .next ≤ at + 5 ⌝ }
 {
-    let m = byte_or(d, at, mask, 10, other.model);
-    let f = byte_or(d, m.next, mask, 6, other.frame);
-    let c = byte_or(d, f.next, mask, 11, other.colormap);
-    let s = byte_or(d, c.next, mask, 12, other.skin);
+    let m = byte_or(d, at, mask, 10, other.model, false);
+    let f = byte_or(d, m.next, mask, 6, other.frame, m.needless);
+    let c = byte_or(d, f.next, mask, 11, other.colormap, f.needless);
+    let s = byte_or(d, c.next, mask, 12, other.skin, c.needless);
+    let e = byte_or(d, s.next, mask, 13, 0, s.needless);
     let look = Look {
         model: m.value,
         frame: f.value,
         colormap: c.value,
         skin: s.value,
     };
-    LookOr { look, next: s.next }
+    LookOr {
+        look,
+        effects: e.value,
+        next: e.next,
+        needless: e.needless,
+    }
 }
 
-fn pose_or(d: &[u8], at: usize, mask: u16, other: Pose) -> PoseOr
+// The same. Of these only the frame is sent often: where none of the others is, they are passed over at once.
+fn look_or(d: &[u8], at: usize, mask: u16, other: Look) -> LookOr
+    requires { ⌜ at + 5 ≤ length (now d) ⌝ }
+    ensures { λ r. ⌜ lookValues (r .look) ++ (number (r .effects) ∷ []) ≡ spread (now (d .entry)) (lookSlots other) (bit mask) at ⌝ }
+    ensures place { λ r. ⌜ r .next ≡ passed (lookSlots other) (bit mask) at ⌝ }
+    ensures flag { λ r. ⌜ r .needless ≡ needlessIn (now (d .entry)) (lookSlots other) (bit mask) at false ⌝ }
+    ensures near { λ r. ⌜ r .next ≤ at + 5 ⌝ }
+{
+    if (mask >> 10) % 16 == 0 {
+        let f = byte_or(d, at, mask, 6, other.frame, false);
+        let look = Look {
+            model: other.model,
+            frame: f.value,
+            colormap: other.colormap,
+            skin: other.skin,
+        };
+        return LookOr {
+            look,
+            effects: 0,
+            next: f.next,
+            needless: f.needless,
+        };
+    }
+    every_look(d, at, mask, other)
+}
+
+fn pose_or(d: &[u8], at: usize, mask: u16, other: Pose, needless: bool) -> PoseOr
     requires { ⌜ at + 9 ≤ length (now d) ⌝ }
     ensures { λ r. ⌜ poseValues (r .pose) ≡ spread (now (d .entry)) (poseSlots other) (bit mask) at ⌝ }
     ensures place { λ r. ⌜ r .next ≡ passed (poseSlots other) (bit mask) at ⌝ }
+    ensures flag { λ r. ⌜ r .needless ≡ needlessIn (now (d .entry)) (poseSlots other) (bit mask) at needless ⌝ }
 {
-    let x = short_or(d, at, mask, 1, other.x);
-    let a = char_or(d, x.next, mask, 8, other.angle0);
-    let y = short_or(d, a.next, mask, 2, other.y);
-    let b = char_or(d, y.next, mask, 4, other.angle1);
-    let z = short_or(d, b.next, mask, 3, other.z);
-    let c = char_or(d, z.next, mask, 9, other.angle2);
+    let x = short_or(d, at, mask, 1, other.x, needless);
+    let a = char_or(d, x.next, mask, 8, other.angle0, x.needless);
+    let y = short_or(d, a.next, mask, 2, other.y, a.needless);
+    let b = char_or(d, y.next, mask, 4, other.angle1, y.needless);
+    let z = short_or(d, b.next, mask, 3, other.z, b.needless);
+    let c = char_or(d, z.next, mask, 9, other.angle2, z.needless);
     let pose = Pose {
         x: x.value,
         angle0: a.value,
@@ -146,7 +218,11 @@ fn pose_or(d: &[u8], at: usize, mask: u16, other: Pose) -> PoseOr
         z: z.value,
         angle2: c.value,
     };
-    PoseOr { pose, next: c.next }
+    PoseOr {
+        pose,
+        next: c.next,
+        needless: c.needless,
+    }
 }
 
 // ---- an update
@@ -163,11 +239,11 @@ pub fn update_head(d: &[u8], at: usize, low: u8) -> UpdateHead
     ensures { λ r. ⌜ r ≡ headAt (now (d .entry)) at low ⌝ }
     ensures near { λ r. ⌜ r .next ≤ at + 3 ⌝ }
 {
-    let h = byte_or(d, at, wide(low), 0, 0);
+    let h = byte_or(d, at, wide(low), 0, 0, false);
     let mask = wide(h.value) * 256 + wide(low);
     let q = h.next;
     let lo = d[q];
-    let hi = byte_or(d, q + 1, mask, 14, 0);
+    let hi = byte_or(d, q + 1, mask, 14, 0, false);
     UpdateHead {
         mask,
         entity: (wide(hi.value) * 256 + wide(lo)) as usize,
@@ -175,9 +251,11 @@ pub fn update_head(d: &[u8], at: usize, low: u8) -> UpdateHead
     }
 }
 
+// Also whether a field was sent needlessly.
 pub struct RecordAt {
     pub record: Record,
     pub next: usize,
+    pub needless: bool,
 }
 
 // What an update with this mask does not send comes from the baseline, effects 0.
@@ -185,20 +263,197 @@ pub fn update_fields(d: &[u8], at: usize, mask: u16, b: Baseline) -> RecordAt
     requires { ⌜ at + 14 ≤ length (now d) ⌝ }
     ensures { λ r. ⌜ recordValues (r .record) ≡ filledAt (now (d .entry)) (baselineNumbers b) mask at ⌝ }
     ensures place { λ r. ⌜ r .next ≡ passed (updateSlots (baselineNumbers b)) (bit mask) at ⌝ }
+    ensures flag { λ r. ⌜ r .needless ≡ needlessIn (now (d .entry)) (updateSlots (baselineNumbers b)) (bit mask) at false ⌝ }
 {
     let l = look_or(d, at, mask, b.look);
-    let e = byte_or(d, l.next, mask, 13, 0);
-    let p = pose_or(d, e.next, mask, b.pose);
+    let p = pose_or(d, l.next, mask, b.pose, l.needless);
     let look = l.look;
     let pose = p.pose;
     let record = Record {
         bit5: (mask >> 5) % 2 != 0,
         look,
-        effects: e.value,
+        effects: l.effects,
         pose,
     };
     RecordAt {
         record,
         next: p.next,
+        needless: p.needless,
+    }
+}
+
+// ---- clientdata
+
+struct MotionOr {
+    motion: Motion,
+    next: usize,
+    needless: bool,
+}
+
+struct ArmsOr {
+    arms: Arms,
+    next: usize,
+    needless: bool,
+}
+
+// View height 22, other fields 0.
+fn motion_or(d: &[u8], at: usize, mask: u16, needless: bool) -> MotionOr
+    requires { ⌜ at + 8 ≤ length (now d) ⌝ }
+    ensures { λ r. ⌜ motionValues (r .motion) ≡ spread (now (d .entry)) (take 8 clientSlots) (bit mask) at ⌝ }
+    ensures place { λ r. ⌜ r .next ≡ passed (take 8 clientSlots) (bit mask) at ⌝ }
+    ensures flag { λ r. ⌜ r .needless ≡ needlessIn (now (d .entry)) (take 8 clientSlots) (bit mask) at needless ⌝ }
+    ensures near { λ r. ⌜ r .next ≤ at + 8 ⌝ }
+{
+    let h = char_or(d, at, mask, 0, 22, needless);
+    let p = char_or(d, h.next, mask, 1, 0, h.needless);
+    let p0 = char_or(d, p.next, mask, 2, 0, p.needless);
+    let v0 = char_or(d, p0.next, mask, 5, 0, p0.needless);
+    let p1 = char_or(d, v0.next, mask, 3, 0, v0.needless);
+    let v1 = char_or(d, p1.next, mask, 6, 0, p1.needless);
+    let p2 = char_or(d, v1.next, mask, 4, 0, v1.needless);
+    let v2 = char_or(d, p2.next, mask, 7, 0, p2.needless);
+    let motion = Motion {
+        view_height: h.value,
+        pitch: p.value,
+        punch0: p0.value,
+        velocity0: v0.value,
+        punch1: p1.value,
+        velocity1: v1.value,
+        punch2: p2.value,
+        velocity2: v2.value,
+    };
+    MotionOr {
+        motion,
+        next: v2.next,
+        needless: v2.needless,
+    }
+}
+
+fn arms_or(d: &[u8], at: usize, mask: u16, needless: bool) -> ArmsOr
+    requires { ⌜ at + 3 ≤ length (now d) ⌝ }
+    ensures { λ r. ⌜ armsValues (r .arms) ≡ spread (now (d .entry)) (drop 9 clientSlots) (bit mask) at ⌝ }
+    ensures place { λ r. ⌜ r .next ≡ passed (drop 9 clientSlots) (bit mask) at ⌝ }
+    ensures flag { λ r. ⌜ r .needless ≡ needlessIn (now (d .entry)) (drop 9 clientSlots) (bit mask) at needless ⌝ }
+    ensures near { λ r. ⌜ r .next ≤ at + 3 ⌝ }
+{
+    let f = byte_or(d, at, mask, 12, 0, needless);
+    let a = byte_or(d, f.next, mask, 13, 0, f.needless);
+    let m = byte_or(d, a.next, mask, 14, 0, a.needless);
+    let arms = Arms {
+        weapon_frame: f.value,
+        armour: a.value,
+        weapon_model: m.value,
+    };
+    ArmsOr {
+        arms,
+        next: m.next,
+        needless: m.needless,
+    }
+}
+
+fn long_in(d: &[u8], at: usize) -> i32
+    requires { ⌜ at + 4 ≤ length (now d) ⌝ }
+    ensures { λ r. ⌜ ofZ w32 r ≡ leRead (take 4 (drop at (now (d .entry)))) ⌝ }
+{
+    let low = word_in(d, at);
+    let high = word_in(d, at + 2);
+    wire::signed32((high as u32) * 65536 + (low as u32))
+}
+
+fn supplies_in(d: &[u8], at: usize) -> Supplies
+    requires { ⌜ at + 8 ≤ length (now d) ⌝ }
+    ensures { λ r. ⌜ ((mask : Mask) → suppliesValues r ≡ spread (now (d .entry)) suppliesSlots mask at) ⌝ }
+{
+    let health = wire::signed16(word_in(d, at));
+    Supplies {
+        health,
+        ammo: d[at + 2],
+        count0: d[at + 3],
+        count1: d[at + 4],
+        count2: d[at + 5],
+        count3: d[at + 6],
+        weapon: d[at + 7],
+    }
+}
+
+struct ClientOr {
+    client: Client,
+    next: usize,
+    needless: bool,
+}
+
+fn client_fields(d: &[u8], at: usize, mask: u16, needless: bool) -> ClientOr
+    requires { ⌜ at + 23 ≤ length (now d) ⌝ }
+    ensures { λ r. ⌜ clientValues (r .client) ≡ clientIn (now (d .entry)) mask at ⌝ }
+    ensures place { λ r. ⌜ r .next ≡ passed clientFields (bit mask) at ⌝ }
+    ensures flag { λ r. ⌜ r .needless ≡ needlessIn (now (d .entry)) clientFields (bit mask) at needless ⌝ }
+    ensures near { λ r. ⌜ r .next ≤ at + 23 ⌝ }
+{
+    let m = motion_or(d, at, mask, needless);
+    let q = m.next;
+    let items = long_in(d, q);
+    let a = arms_or(d, q + 4, mask, m.needless);
+    let p = a.next;
+    let supplies = supplies_in(d, p);
+    let motion = m.motion;
+    let arms = a.arms;
+    let client = Client {
+        ground: (mask >> 10) % 2 != 0,
+        water: (mask >> 11) % 2 != 0,
+        motion,
+        items,
+        arms,
+        supplies,
+    };
+    ClientOr {
+        client,
+        next: p + 8,
+        needless: a.needless,
+    }
+}
+
+// Clientdata filled in, the place behind it or the refusal, and whether it may not be in normal form.
+pub struct ClientAt {
+    pub client: Client,
+    pub cursor: Cursor,
+    pub needless: bool,
+}
+
+// The bytes of the longest clientdata behind its number.
+const CLIENT_SIZE: usize = 25;
+
+// Where too few bytes follow, or a reserved bit is set, the reader that names refusals decides.
+pub fn client_at(s: &[u8], at: usize) -> ClientAt
+    ensures { λ r. ⌜ ((x : Context) → gotten (now (s .entry)) (number Kind.clientdata ∷ clientValues (r .client)) (r .cursor) ≡ clientAt (now (s .entry)) at x) ⌝ }
+{
+    if at <= s.len() {
+        if CLIENT_SIZE <= s.len() - at {
+            let mask = word_in(s, at);
+            if (mask >> 8) % 2 == 0 {
+                if mask < 32768 {
+                    let f = client_fields(s, at + 2, mask, (mask >> 9) % 2 == 0);
+                    let client = f.client;
+                    let cursor = Cursor {
+                        at: f.next,
+                        refusal: 0,
+                    };
+                    return ClientAt {
+                        client,
+                        cursor,
+                        needless: f.needless,
+                    };
+                }
+            }
+        }
+    }
+    let c = Cursor { at, refusal: 0 };
+    let t = masked::clientdata_at(s, c);
+    let data = t.data;
+    let cursor = t.cursor;
+    let client = scene::fill_client(data);
+    ClientAt {
+        client,
+        cursor,
+        needless: true,
     }
 }

@@ -1,9 +1,12 @@
 -- `quick::update_fields` meets its contract: look, effects and pose follow the slots in turn.
 -- Assumes nothing.
-use mathlib.Core.List.{_∷_}
-use Rattle.dem.specs.Bytes.{bitOf}
+use mathlib.Core.List.{[], _∷_, _++_}
+use mathlib.Core.Bool.{false}
+use Rattle.dem.specs.Bytes.{bit, bitOf}
 use Rattle.dem.specs.Layout.{number}
-use Rattle.quick.proofs.Fields.{fields-joined, places-joined}
+use Rattle.message.specs.Values.{lookValues, poseValues}
+use Rattle.quick.specs.Spread.{lookSlots, poseSlots}
+use Rattle.quick.proofs.Fields.{slots-then}
 use Rattle.masked.proofs.MaskLaws.{bit-test}
 use borrow.Author.Needs.{needs}
 use Rattle.quick.proofs.update_fields.Statement.{statement}
@@ -12,26 +15,19 @@ use Rattle.quick.proofs.update_fields.Tie as tie
 look-or-requires : tie.Need-look-or-requires
 look-or-requires c κs = search needs
 
-byte-or-requires : tie.Need-byte-or-requires
-byte-or-requires c κs = search needs
-
 pose-or-requires : tie.Need-pose-or-requires
 pose-or-requires c κs = search needs
 
 returns : tie.Need-returns
 returns c =
-    let a = c .before .before .before .before .before .before .args in
+    let a = c .before .before .before .before .before .args in
     let five = bit-test (a .mask) 5 in
-    let l = c .before .before .before .before .look-or in
-    let e = c .before .before .before .byte-or in
+    let l = c .before .before .before .look-or in
     let p = c .before .before .pose-or in
-    let vs = fields-joined (a .d .now) (a .mask) (a .b) (l .result .look) (e .result .value) (p .result .pose) (a .at) (l .result .next) (e .result .next) (p .result .next)
-    (l .ensures .0) (l .ensures .1 .0) (e .ensures .0) (e .ensures .1 .0) (p .ensures .0) (p .ensures .1) in (
-      (λ i. number (bitOf (five i)) ∷ vs i),
-      places-joined (a .d .now) (a .mask) (a .b) (l .result .look) (e .result .value) (p .result .pose) (a .at) (l .result .next) (e .result .next) (p .result .next)
-          (l .ensures .0) (l .ensures .1 .0) (e .ensures .0) (e .ensures .1 .0) (p .ensures .0) (p .ensures .1),
-    )
+    let q = slots-then (a .d .now) (bit (a .mask)) (lookSlots (a .b .look)) (poseSlots (a .b .pose)) (a .at) false
+    (lookValues (l .result .look) ++ (number (l .result .effects) ∷ [])) (l .result .next) (l .result .needless) (poseValues (p .result .pose)) (p .result .next) (p .result .needless)
+    (l .ensures .0, l .ensures .1 .0, l .ensures .1 .1 .0) (p .ensures .0, p .ensures .1 .0, p .ensures .1 .1) in
+    ((λ i. number (bitOf (five i)) ∷ q .0 i), (q .1, q .2))
 
 pub update-fields-spec : {M : Type 1} → statement M
-update-fields-spec =
-    tie.close (tie.spec look-or-requires byte-or-requires pose-or-requires returns)
+update-fields-spec = tie.close (tie.spec look-or-requires pose-or-requires returns)

@@ -7,7 +7,7 @@ use mathlib.Core.List.{List, [], _∷_, _++_, map, append-nil}
 use mathlib.Core.Bool.{Bool, true, false, cond, not, _&&_}
 use Prim.Native.Nat.{ℕ, _+_, _-_, _*_, _<_, _≤_}
 use native.Mathlib.Omega.{arith}
-use borrow.Author.Tests.{leb-true, leb-false, le-leb, eqb-true}
+use borrow.Author.Tests.{leb-true, leb-false, le-leb, eqb-true, eq-eqb}
 use denote.Enum.Declared.{tagOf}
 use types.Run.{OneOf}
 use mir.Val.{hasKey}
@@ -17,7 +17,7 @@ use lib.ListN.{length, take, drop, getD, set, replicate, length-append, length-d
 use lib.Seq.{take-append-seam, take-all}
 use Rattle.dem.specs.Kind
 use Rattle.dem.specs.Limits.{entityCount}
-use Rattle.dem.specs.Bytes.{Bytes, found, refused}
+use Rattle.dem.specs.Bytes.{Bytes, Result, found, refused, mapResult}
 use Rattle.dem.specs.Layout.{Value, number, Layout, parse, print, tail, put}
 use Rattle.dem.specs.Scene.{Scene, Context, contextOf, cleared, baselineAt}
 use Rattle.dem.specs.Message.{isMessage, isUpdate, numberRule, kindLayout, layout, layoutIn, updateLayout, fillUpdate, fillClient, fill, sendUpdate, sendClient, normal, apply}
@@ -46,7 +46,7 @@ use Rattle.message.specs.declared.Look.{Look}
 use Rattle.message.specs.declared.Pose.{Pose}
 use Rattle.message.specs.declared.Serverinfo.{Serverinfo}
 use Rattle.message.specs.declared.Update.{Update}
-use Rattle.message.specs.Values.{valuesOf, valuesBy, updateValues, clientValues as sentClientValues}
+use Rattle.message.specs.Values.{valuesOf, valuesBy, updateValues}
 use Rattle.parts.specs.Kinds.{kindAt}
 use Rattle.scene.specs.Views.{Numbered, baselineNumbers, recordNumbers, recordValues, clientValues, sceneWith, withTables}
 use Rattle.scene.specs.declared.Baseline.{Baseline}
@@ -58,6 +58,7 @@ use Rattle.effects.proofs.Tables.{update-applied, matched, Tableless, not-among
 use Rattle.reader.proofs.Arms.{update-arm}
 use Rattle.reader.proofs.Numbers.{is-message, rule-good}
 use Rattle.reader.proofs.Readings.{read-allowed, read-number, read-numbered, kind-read, message-parsed, message-ended, message-found, message-refused}
+use Rattle.quick.specs.Spread.{clientAt}
 use Rattle.blocks.proofs.Turns.{Moved, moved-less}
 
 -- The scene of these parts.
@@ -142,6 +143,37 @@ other-form t f read (M.Track _ _) h w = w
 other-form t f read M.Sellscreen h w = w
 other-form t f read (M.Cutscene _) h w = w
 other-form t f read (M.Update u) h w = absurd (h .update u refl)
+
+-- Clientdata as it was sent, behind what was read and filled in.
+pub record ClientRead (s : List ℕ) (at : ℕ) (x : Context) (k : Client) (c : Cursor) : Type 0 where
+  pub sent : List Value
+  pub read : gotten s (number 15 ∷ sent) c ≡ kindAt s (here at) x 15
+  pub filled : c .refusal ≡ 0 → number Kind.clientdata ∷ clientValues k ≡ fillClient sent
+
+pub client-read : (s : List ℕ) (at : ℕ) (x : Context) (k : Client) (c : Cursor)
+    → gotten s (number Kind.clientdata ∷ clientValues k) c ≡ clientAt s at x → ClientRead s at x k c
+unfolding gotten kindAt
+client-read s at x k c = go (eqb (c .refusal) 0) refl (parseAt s (here at) (kindLayout x 15)) refl
+  where
+    go : (b : Bool) → eqb (c .refusal) 0 ≡ b → (q : Result (List Value)) → parseAt s (here at) (kindLayout x 15) ≡ q
+        → cond b (found (number Kind.clientdata ∷ clientValues k) (drop (c .at) s)) (refused (c .refusal) [])
+        ≡ mapResult (λ vs. fillClient (tail vs)) (put (number Kind.clientdata) q) → ClientRead s at x k c
+    go true e (found us rest) f h =
+        let behind : drop (c .at) s ≡ rest = cc in
+        record {
+          sent = us;
+          read = ap (λ (b : Bool). cond b (found (number 15 ∷ us) (drop (c .at) s)) (refused (c .refusal) [])) e
+              ∙ ap (found (number 15 ∷ us)) behind ∙ sym (ap (put (number 15)) f);
+          filled = λ z. cc;
+        }
+    go true e (refused n left) f h = clash (cc)
+    go false e (found us rest) f h = clash (cc)
+    go false e (refused n left) f h =
+        record {
+          sent = [];
+          read = ap (λ (b : Bool). cond b (found (number 15 ∷ []) (drop (c .at) s)) (refused (c .refusal) [])) e ∙ (cc) ∙ sym (ap (put (number 15)) f);
+          filled = λ z. let w : true ≡ false = sym (eq-eqb (c .refusal) 0 z) ∙ e in clash (cc);
+        }
 
 module _ (s : List ℕ) (at : ℕ) (l : at < length s) (b : List Baseline) (e : List Record) (p : List Bool) (x : Rest) where
   pub ended-refused : x .ended ≡ true → readMessage (held b e p x) (drop at s) ≡ refused 11 (drop at s)
@@ -290,16 +322,15 @@ module _ (s : List ℕ) (at : ℕ) (l : at < length s) (b : List Baseline) (e : 
     abbrev pub clientForm : Client → List ℕ
     clientForm k = print (layoutIn (held b e p x)) (sendClient (clientValues k))
 
-    pub client-moved : (d : Clientdata) (k : Client) (y : Rest) (c : Cursor)
-        → gotten s (number 15 ∷ sentClientValues d) c ≡ parseAt s (here at) (layoutIn (held b e p x)) → c .refusal ≡ 0
-        → number Kind.clientdata ∷ clientValues k ≡ fillClient (sentClientValues d)
+    pub client-moved : (us : List Value) (k : Client) (y : Rest) (c : Cursor)
+        → gotten s (number 15 ∷ us) c ≡ parseAt s (here at) (layoutIn (held b e p x)) → c .refusal ≡ 0
+        → number Kind.clientdata ∷ clientValues k ≡ fillClient us
         → ((b e : List (List ℕ)) (p : List Bool) → sceneWith b e p y ≡ apply (sceneWith b e p x) (number Kind.clientdata ∷ clientValues k))
         → Moved s (held b e p x) at (held b e p y) (c .at) (clientForm k)
     unfolding normal writeMessage
-    client-moved d k y c q z f g =
-        let filled : fill (held b e p x) (number 15 ∷ sentClientValues d) ≡ number Kind.clientdata ∷ clientValues k =
-        fill-client (held b e p x) (sentClientValues d) ∙ sym f in
-        parsed-moved (number 15 ∷ sentClientValues d) c q z _
+    client-moved us k y c q z f g =
+        let filled : fill (held b e p x) (number 15 ∷ us) ≡ number Kind.clientdata ∷ clientValues k = fill-client (held b e p x) us ∙ sym f in
+        parsed-moved (number 15 ∷ us) c q z _
         (ap (apply (held b e p x)) filled ∙ sym (g (map baselineNumbers b) (map recordNumbers e) p))
         _ (ap (λ (m : List Value). print (layoutIn (held b e p x)) (normal (held b e p x) m)) filled)
 

@@ -241,14 +241,13 @@ pub fn write_blocks(
                     at = to;
                 }
                 15 => {
-                    let t = masked::clientdata_at(s, c);
+                    let t = quick::client_at(s, at + 1);
                     let next = t.cursor;
                     let wrong = next.refusal;
                     if wrong != 0 {
                         return refused_in(given, blocks, start, wrong, at, written);
                     }
-                    let data = t.data;
-                    let client = scene::fill_client(data);
+                    let client = t.client;
                     size = normal::put_client(on, &mut body, size, client);
                     rest = scene::with_client(rest, client);
                     at = next.at;

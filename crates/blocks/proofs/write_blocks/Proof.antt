@@ -42,7 +42,7 @@ use Rattle.normal.specs.Kept.{readOrAnew}
 use Rattle.blocks.specs.Runs.{Told, refusedIn, answered, Wrote, stored, put, wroteOf, runOf, wrote}
 use Rattle.blocks.specs.declared.WrittenAt.{WrittenAt}
 use Rattle.blocks.proofs.Turns.{Moved, front-kept, before-stop, head-refused, head-found, moved-less, moved-short, moved-range, blockBytes, block-length, put-block-there, put-length, closed, closed-short, closed-fits, inside, on-refused, on-moved, on-end, run-over, run-refused, run-opened}
-use Rattle.blocks.proofs.Arms.{held, noBaseline, quick-moved, kept-form, timed, ended-refused, kind-parsed, parsed-refused, parsed-less, update-parsed, update-known, update-moved, time-moved, client-moved, other-parsed, baseline-known, baseline-moved, serverinfo-moved, rest-moved}
+use Rattle.blocks.proofs.Arms.{held, noBaseline, quick-moved, kept-form, timed, ended-refused, kind-parsed, parsed-refused, parsed-less, update-parsed, update-known, update-moved, time-moved, ClientRead, client-read, client-moved, other-parsed, baseline-known, baseline-moved, serverinfo-moved, rest-moved}
 use Rattle.blocks.proofs.write_blocks.Statement.{statement}
 use Rattle.blocks.proofs.write_blocks.Tie as tie
 use Rattle.blocks.proofs.write_blocks.Reads as reads
@@ -53,7 +53,6 @@ use Rattle.blocks.proofs.quick_until.Reads as quick-until-reads
 use Rattle.blocks.proofs.refused_in.Reads as refused-in-reads
 use Rattle.blocks.proofs.store_block.Reads as store-block-reads
 use Rattle.heads.proofs.read_head.Reads as read-head-reads
-use Rattle.masked.proofs.clientdata_at.Reads as clientdata-at-reads
 use Rattle.masked.proofs.read_update.Reads as read-update-reads
 use Rattle.normal.proofs.put_client.Reads as put-client-reads
 use Rattle.normal.proofs.put_copy.Reads as put-copy-reads
@@ -61,12 +60,12 @@ use Rattle.normal.proofs.put_other.Reads as put-other-reads
 use Rattle.normal.proofs.put_read_update.Reads as put-read-update-reads
 use Rattle.normal.proofs.put_update.Reads as put-update-reads
 use Rattle.plain.proofs.time_at.Reads as time-at-reads
+use Rattle.quick.proofs.client_at.Reads as client-at-reads
 use Rattle.quick.proofs.update_fields.Reads as update-fields-reads
 use Rattle.quick.proofs.update_head.Reads as update-head-reads
 use Rattle.reader.proofs.read_message.Reads as read-message-reads
 use Rattle.scene.proofs.apply_rest.Reads as apply-rest-reads
 use Rattle.scene.proofs.cleared_scene.Reads as cleared-scene-reads
-use Rattle.scene.proofs.fill_client.Reads as fill-client-reads
 use Rattle.scene.proofs.fill_update.Reads as fill-update-reads
 use Rattle.scene.proofs.with_client.Reads as with-client-reads
 
@@ -396,7 +395,7 @@ quick-here c =
     let o = ran (updateOf c) in
     let h = c .before .before .before .before .before .before .update-head in
     let f = c .before .before .update-fields in
-    quick-update (input (blockOf o)) (end o) (p .at + 1) (kind (updateOf c)) (getD (p .baselines) (entity c) noBaseline) (within o) (small c) (h .result) (f .result) (h .ensures .0) (f .ensures .0) (f .ensures .1) (c .before .before .before .before .if6 .left) (c .before .before .before .before .before .if5 .left) (c .before .if7 .left)
+    quick-update (input (blockOf o)) (end o) (p .at + 1) (kind (updateOf c)) (getD (p .baselines) (entity c) noBaseline) (within o) (small c) (h .result) (f .result) (h .ensures .0) (f .ensures .0) (f .ensures .1 .0) (c .before .before .before .before .if6 .left) (c .before .before .before .before .before .if5 .left) (c .before .if7 .left)
 
 abbrev formAt : Found → List ℕ
 formAt c =
@@ -459,10 +458,16 @@ time-parsed c =
     kind-here (message (c .before .before .before .before)) 7 _ _ (c .time-at .result .cursor) (sym (c .before .before .match .keys1)) refl (λ z. omega arith)
     (c .before .context .ensures _ _ _) (c .time-at .ensures)
 
-client-parsed : (c : tie.After-clientdata-at Inv-loop3 μ-loop3 Inv-loop2 μ-loop2 Inv-loop μ-loop) → Parsed (message (c .before .before .before)) (number 15 ∷ clientValues (c .clientdata-at .result .«data»)) (c .clientdata-at .result .cursor)
+client-here : (c : tie.After-client-at Inv-loop3 μ-loop3 Inv-loop2 μ-loop2 Inv-loop μ-loop)
+    → let p = message (c .before .before .before) in
+    ClientRead (body (inBlock (c .before .before .before))) (p .at + 1) (contextOf (scene p)) (c .client-at .result .client) (c .client-at .result .cursor)
+client-here c =
+    let p = message (c .before .before .before) in
+    client-read (body (inBlock (c .before .before .before))) (p .at + 1) (contextOf (scene p)) (c .client-at .result .client) (c .client-at .result .cursor) (c .client-at .ensures (contextOf (scene p)))
+
+client-parsed : (c : tie.After-client-at Inv-loop3 μ-loop3 Inv-loop2 μ-loop2 Inv-loop μ-loop) → Parsed (message (c .before .before .before)) (number 15 ∷ client-here c .sent) (c .client-at .result .cursor)
 client-parsed c =
-    let x = contextOf (scene (message (c .before .before .before))) in
-    kind-here (message (c .before .before .before)) 15 x _ (c .clientdata-at .result .cursor) (sym (c .before .match .keys2)) refl (λ z. omega arith) refl (c .clientdata-at .ensures x)
+    kind-here (message (c .before .before .before)) 15 (contextOf (scene (message (c .before .before .before)))) _ (c .client-at .result .cursor) (sym (c .before .match .keys2)) refl (λ z. omega arith) refl (client-here c .read)
 
 other-read : (c : tie.After-read-message Inv-loop3 μ-loop3 Inv-loop2 μ-loop2 Inv-loop μ-loop) → Parsed (message (c .before .before .before .before .before)) (valuesOf (body (inBlock (c .before .before .before .before .before))) (c .read-message .result .message)) (c .read-message .result .cursor)
 other-read c =
@@ -536,12 +541,13 @@ came c =
       put = w .6 .ensures;
     }))
     (⊎-elim
-    (λ w. arrived c (k .baselines) (k .records) (k .present) (w .9 .result) _ (w .1 .result .cursor .at) (w .7 .result) (w .10) (w .11) (w .12) (w .13) (w .14) (w .15) (w .16)
+    (λ w. arrived c (k .baselines) (k .records) (k .present) (w .8 .result) _ (w .1 .result .cursor .at) (w .6 .result) (w .9) (w .10) (w .11) (w .12) (w .13) (w .14) (w .15)
     (record {
       form = _;
-      moved = client-moved s (k .at) l (k .baselines) (k .records) (k .present) (k .rest) g (w .1 .result .«data») (w .5 .result) (w .9 .result) (w .1 .result .cursor)
-          (client-parsed (record { before = record { before = c .before; match = w .0 }; clientdata-at = w .1 })) (w .3 .left) (w .5 .ensures) (w .9 .ensures);
-      put = w .7 .ensures x;
+      moved = client-moved s (k .at) l (k .baselines) (k .records) (k .present) (k .rest) g _ (w .1 .result .client) (w .8 .result) (w .1 .result .cursor)
+          (client-parsed (record { before = record { before = c .before; match = w .0 }; client-at = w .1 })) (w .3 .left)
+          (client-here (record { before = record { before = c .before; match = w .0 }; client-at = w .1 }) .filled (w .3 .left)) (w .8 .ensures);
+      put = w .6 .ensures x;
     }))
     (⊎-elim
     (λ w. arrived c (set (k .baselines) (w .10 .given .0 .0 .0) (record { look = w .10 .given .0 .1 .0; pose = w .10 .given .0 .1 .1 .0 })) (k .records) (k .present) (k .rest) _ (w .3 .result .cursor .at) (w .7 .result) (w .13) (w .14) (w .15) (w .16) (w .17) (w .18) (w .19)
@@ -824,8 +830,8 @@ loop2-again c = reached (c .before .before)
 shared-slice-read-k-2 : tie.Need-shared-slice-read-k-2 Inv-loop3 μ-loop3 Inv-loop2 μ-loop2 Inv-loop μ-loop
 shared-slice-read-k-2 c = search needs
 
-add-t76 : tie.Need-add-t76 Inv-loop3 μ-loop3 Inv-loop2 μ-loop2 Inv-loop μ-loop
-add-t76 c = place-fits (message (c .before))
+add-t75 : tie.Need-add-t75 Inv-loop3 μ-loop3 Inv-loop2 μ-loop2 Inv-loop μ-loop
+add-t75 c = place-fits (message (c .before))
 
 context-requires : tie.Need-context-requires Inv-loop3 μ-loop3 Inv-loop2 μ-loop2 Inv-loop μ-loop
 context-requires c κs = search needs
@@ -849,8 +855,11 @@ slice-aggregate-put-copy c = sym (message (c .before .before .before .before .be
 put-copy-requires : tie.Need-put-copy-requires Inv-loop3 μ-loop3 Inv-loop2 μ-loop2 Inv-loop μ-loop
 put-copy-requires c κs = copy-fits (message (c .before .before .before .before .before .before .before)) _ (c .before .before .before .time-at .result .cursor) (time-parsed (c .before .before .before)) (c .before .if9 .left)
 
-clientdata-at-requires : tie.Need-clientdata-at-requires Inv-loop3 μ-loop3 Inv-loop2 μ-loop2 Inv-loop μ-loop
-clientdata-at-requires c κs = search needs
+add-client-at : tie.Need-add-client-at Inv-loop3 μ-loop3 Inv-loop2 μ-loop2 Inv-loop μ-loop
+add-client-at c = place-fits (message (c .before .before))
+
+client-at-requires : tie.Need-client-at-requires Inv-loop3 μ-loop3 Inv-loop2 μ-loop2 Inv-loop μ-loop
+client-at-requires c κs = search needs
 
 refused-in-requires-3 : tie.Need-refused-in-requires-3 Inv-loop3 μ-loop3 Inv-loop2 μ-loop2 Inv-loop μ-loop
 refused-in-requires-3 c κs = search needs
@@ -860,16 +869,13 @@ same-length-3 c = blockOf (inBlock (c .before .before .before .before .before .b
 
 returns-3 : tie.Need-returns-3 Inv-loop3 μ-loop3 Inv-loop2 μ-loop2 Inv-loop μ-loop
 returns-3 c =
-    refuse-parsed (message (c .before .before .before .before .before .before)) _ (c .before .before .before .clientdata-at .result .cursor) (client-parsed (c .before .before .before)) (c .before .if10 .taken) (c .refused-in3 .result) (c .refused-in3 .ensures)
-
-fill-client-requires : tie.Need-fill-client-requires Inv-loop3 μ-loop3 Inv-loop2 μ-loop2 Inv-loop μ-loop
-fill-client-requires c κs = search needs
+    refuse-parsed (message (c .before .before .before .before .before .before)) _ (c .before .before .before .client-at .result .cursor) (client-parsed (c .before .before .before)) (c .before .if10 .taken) (c .refused-in3 .result) (c .refused-in3 .ensures)
 
 slice-aggregate-put-client : tie.Need-slice-aggregate-put-client Inv-loop3 μ-loop3 Inv-loop2 μ-loop2 Inv-loop μ-loop
-slice-aggregate-put-client c = sym (message (c .before .before .before .before .before .before .before .before) .reached .2)
+slice-aggregate-put-client c = sym (message (c .before .before .before .before .before .before .before) .reached .2)
 
 put-client-requires : tie.Need-put-client-requires Inv-loop3 μ-loop3 Inv-loop2 μ-loop2 Inv-loop μ-loop
-put-client-requires c κs = room-for (message (c .before .before .before .before .before .before .before .before)) 32 (omega arith)
+put-client-requires c κs = room-for (message (c .before .before .before .before .before .before .before)) 32 (omega arith)
 
 with-client-requires : tie.Need-with-client-requires Inv-loop3 μ-loop3 Inv-loop2 μ-loop2 Inv-loop μ-loop
 with-client-requires c κs = search needs
@@ -1095,7 +1101,7 @@ write-blocks-spec =
     loop2-less
     loop2-again
     shared-slice-read-k-2
-    add-t76
+    add-t75
     context-requires
     time-at-requires
     refused-in-requires-2
@@ -1103,11 +1109,11 @@ write-blocks-spec =
     returns-2
     slice-aggregate-put-copy
     put-copy-requires
-    clientdata-at-requires
+    add-client-at
+    client-at-requires
     refused-in-requires-3
     same-length-3
     returns-3
-    fill-client-requires
     slice-aggregate-put-client
     put-client-requires
     with-client-requires

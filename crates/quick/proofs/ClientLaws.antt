@@ -23,7 +23,8 @@ use Rattle.wire.specs.declared.Cursor.{Cursor}
 use Rattle.wire.proofs.Sticky.{here}
 use Rattle.parts.specs.Kinds.{kindAt}
 use Rattle.quick.specs.Spread.{passed, clientFields, clientIn, clientAt}
-use Rattle.quick.proofs.QuickLaws.{sent, slots-filled, slots-parsed}
+use Rattle.quick.proofs.Fields.{sent}
+use Rattle.quick.proofs.QuickLaws.{slots-filled, slots-parsed}
 
 pub client-good : (m : ℕ) → bit m 8 ≡ false → m < 32768 → clientRule m ≡ 0
 client-good m e h =

@@ -25,6 +25,7 @@ use Rattle.quick.specs.Spread.{fieldOr, behind, spread, passed, filledAt
 use Rattle.quick.specs.Heads.{highAt, maskAt, entityWidth, headAt}
 use Rattle.quick.specs.declared.UpdateHead.{UpdateHead}
 use Rattle.quick.specs.declared.RecordAt.{RecordAt}
+use Rattle.quick.proofs.Fields.{sent}
 
 -- Bytes in front of the end are the same in the bytes up to the end.
 before-end : (w p end : ℕ) (d : List ℕ) → p + w ≤ end → take w (drop p (take end d)) ≡ take w (drop p d)
@@ -33,11 +34,7 @@ before-end w (suc p) zero d h = let z : ⊥ = omega arith in absurd z
 before-end w (suc p) (suc end) [] h = refl
 before-end w (suc p) (suc end) (x ∷ d) h = before-end w p end d (omega arith)
 
--- ---- slots as sent: 0 for one that is not
-
-unfoldable pub sent : List ℕ → List Slot → Mask → ℕ → List Value
-sent d [] mask at = []
-sent d (s ∷ ss) mask at = number (fieldOr d at (isSent s mask) (s .width) 0) ∷ sent d ss mask (behind at (isSent s mask) (s .width))
+-- ---- slots as sent
 
 sent-read : (d : List ℕ) (at : ℕ) (b : Bool) (w : ℕ) → leRead (take (cond b w 0) (drop at d)) ≡ fieldOr d at b w 0
 unfolding fieldOr

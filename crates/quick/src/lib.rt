@@ -17,7 +17,7 @@ ghost use Rattle.wire.specs.Cursors.{gotten};
 ghost use Rattle.message.specs.Values.{lookValues, poseValues, motionValues, armsValues, suppliesValues};
 ghost use Rattle.scene.specs.Views.{baselineNumbers, recordValues, clientValues};
 ghost use Rattle.quick.specs.Spread.{fieldOr, behind, needlessOr, spread, passed, needlessIn, lookSlots, poseSlots, filledAt, suppliesSlots, clientFields, clientIn, clientAt};
-ghost use Rattle.quick.specs.Heads.{headAt};
+ghost use Rattle.quick.specs.Heads.{headAt, needlessHead};
 use message::Arms;
 use message::Look;
 use message::Motion;
@@ -249,6 +249,13 @@ pub fn update_head(d: &[u8], at: usize, low: u8) -> UpdateHead
         entity: (wide(hi.value) * 256 + wide(lo)) as usize,
         next: hi.next,
     }
+}
+
+// Whether the byte of high mask bits, or the second of the entity, was sent needlessly.
+pub fn needless_head(mask: u16, entity: usize) -> bool
+    ensures { λ r. ⌜ r ≡ needlessHead mask entity ⌝ }
+{
+    ((mask % 2 != 0) & (mask < 256)) | (((mask >> 14) % 2 != 0) & (entity < 256))
 }
 
 // Also whether a field was sent needlessly.

@@ -3,7 +3,7 @@
 -- Assumes nothing.
 use mathlib.Core.Path.{_≡_, refl, sym, ap, _∙_, subst}
 use mathlib.Core.List.{List, [], _∷_}
-use mathlib.Core.Bool.{Bool, true, false, cond}
+use mathlib.Core.Bool.{Bool, true, false, cond, not, Bool·not-not}
 use Prim.Native.Nat.{ℕ, _+_, _/_, _%_, _^_, _<_, _≤_}
 use native.Mathlib.Nat.{le-refl}
 use native.Mathlib.Omega.{arith}
@@ -15,15 +15,18 @@ use Rattle.dem.specs.Bytes.{Result, found, refused, mapResult, leRead, refusedA
 use Rattle.dem.specs.Layout.{Value, number, done, parse, put, tail}
 use Rattle.dem.specs.Masked.{slotLayout}
 use Rattle.dem.specs.Scene.{Context}
-use Rattle.dem.specs.Message.{clientRule, groundBit, waterBit, kindLayout, fillClient}
+use Rattle.dem.specs.Message.{clientRule, groundBit, waterBit, kindLayout, fillClient, sendClient}
 use Rattle.dem.proofs.ByteLaws.{bit-div}
 use Rattle.dem.proofs.AtLaws.{parse-good}
 use Rattle.wire.specs.Cursors.{gotten, parseAt}
 use Rattle.wire.specs.declared.Cursor.{Cursor}
 use Rattle.wire.proofs.Sticky.{here}
 use Rattle.parts.specs.Kinds.{kindAt}
-use Rattle.quick.specs.Spread.{passed, clientFields, clientIn, clientAt}
-use Rattle.quick.proofs.QuickLaws.{sent, slots-filled, slots-parsed}
+use Rattle.masked.proofs.MaskLaws.{bit-test}
+use Rattle.quick.specs.Spread.{passed, needlessIn, clientFields, clientIn, clientAt}
+use Rattle.quick.proofs.Fields.{sent}
+use Rattle.quick.proofs.NormalLaws.{client-kept}
+use Rattle.quick.proofs.QuickLaws.{slots-filled, slots-parsed}
 
 pub client-good : (m : ℕ) → bit m 8 ≡ false → m < 32768 → clientRule m ≡ 0
 client-good m e h =
@@ -71,3 +74,14 @@ module _ (s : List ℕ) (at mask : ℕ) (whole : at + 2 ≤ length s) (read : le
       ∙ ap (λ (ws : List Value). gotten s ws (here (passed clientFields (bit mask) (at + 2)))) (sym client-filled)
       ∙ gotten-map s (λ ws. fillClient (tail ws)) (number Kind.clientdata ∷ number mask ∷ fields) (here (passed clientFields (bit mask) (at + 2)))
       ∙ ap (mapResult (λ ws. fillClient (tail ws))) (client-parsed x)
+
+  -- Where nothing was sent needlessly, by code's test of the bit that always is set, it is its own normal form.
+  pub client-again : (vs : List Value) (next : ℕ) (flag : Bool) → mask < 32768 → bit mask 8 ≡ false → vs ≡ clientIn s mask (at + 2)
+      → next ≡ passed clientFields (bit mask) (at + 2) → flag ≡ needlessIn s clientFields (bit mask) (at + 2) (eqb (mask / 2 ^ 9 % 2) 0)
+      → (x : Context) → flag ≡ false → gotten s (sendClient vs) (here next) ≡ kindAt s (here at) x Kind.clientdata
+  client-again vs next flag low eight ev en eo x none =
+      let nine : not (bit mask 9) ≡ eqb (mask / 2 ^ 9 % 2) 0 = ap not (sym (bit-test mask 9)) ∙ Bool·not-not (eqb (mask / 2 ^ 9 % 2) 0) in
+      let every = ap (needlessIn s clientFields (bit mask) (at + 2)) nine ∙ sym eo ∙ none in
+      (λ i. gotten s (sendClient (ev i)) (here (en i)))
+      ∙ ap (λ (ws : List Value). gotten s ws (here (passed clientFields (bit mask) (at + 2)))) (client-kept s mask (at + 2) low eight every)
+      ∙ client-parsed x

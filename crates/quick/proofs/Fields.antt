@@ -2,10 +2,10 @@
 -- Assumes nothing.
 use mathlib.Core.Path.{_≡_, refl, sym, ap, ap₂, _∙_}
 use mathlib.Core.List.{List, [], _∷_, _++_}
-use mathlib.Core.Bool.{Bool, true, false, cond, _||_}
+use mathlib.Core.Bool.{Bool, true, false, cond, not, _||_, _&&_}
 use Prim.Native.Nat.{ℕ, zero, suc, _+_, _*_, _/_, _%_, _^_, _<_, _≤_}
 use native.Mathlib.Omega.{arith}
-use lib.Dec.{eqb}
+use lib.Dec.{eqb, ltb}
 use lib.IntN.{ℤ}
 use lib.ListN.{length, take, drop, getD}
 use lib.Signed.{mag}
@@ -17,12 +17,14 @@ use Rattle.dem.specs.Masked.{Slot, Mask, isSent}
 use Rattle.dem.specs.Message.{highBit, wideBit}
 use Rattle.dem.proofs.ByteLaws.{bit-div}
 use Rattle.dem.proofs.AtLaws.{one-at, two-at}
+use Rattle.wire.proofs.Sticky.{set-not}
 use Rattle.wire.proofs.SignedLaws.{same-bits}
+use Rattle.masked.proofs.MaskLaws.{bit-test}
 use Rattle.quick.specs.Spread.{fieldOr, behind, needlessOr, spread, passed, needlessIn}
-use Rattle.quick.specs.Heads.{highAt, maskAt, entityWidth, headAt}
+use Rattle.quick.specs.Heads.{highAt, maskAt, entityWidth, headAt, needlessHead}
 use Rattle.quick.specs.declared.UpdateHead.{UpdateHead}
 
-set-one : (x : ℕ) → (x ≡ 0 → ⊥) → isSet x ≡ true
+pub set-one : (x : ℕ) → (x ≡ 0 → ⊥) → isSet x ≡ true
 set-one zero h = absurd (h refl)
 set-one (suc x) h = refl
 
@@ -84,6 +86,11 @@ module _ (d : List ℕ) (at low h q m lo hi next : ℕ) where
       ∙ ap₂ (λ (q m : ℕ). leRead (take (entityWidth m) (drop q d))) eq mask in
       let place = en ∙ entity-behind q (bit m wideBit) ∙ ap₂ (λ (q m : ℕ). q + entityWidth m) eq mask in
       λ i. record { mask = mask i; entity = entity i; next = place i }
+
+-- Whether a byte of it was sent needlessly, by the tests that code makes.
+pub head-tested : (m e : ℕ) → (not (eqb (m % 2) 0) && ltb m 256 || not (eqb (m / 2 ^ 14 % 2) 0) && ltb e 256) ≡ needlessHead m e
+unfolding needlessHead bit
+head-tested m e = ap₂ (λ (x y : Bool). x && ltb m 256 || y && ltb e 256) (set-not (m % 2)) (bit-test m 14)
 
 -- ---- slots in turn
 
@@ -147,3 +154,8 @@ slots-then d mask rs ss at before us next n vs end n′ p e = (
     needless-append [] at b = refl
     needless-append (r ∷ rs) at b =
         needless-append rs (behind at (isSent r mask) (r .width)) (cond (r .always) b (needlessOr b d at (isSent r mask) (r .width) (r .default)))
+
+-- Slots as sent: 0 for one that is not.
+unfoldable pub sent : List ℕ → List Slot → Mask → ℕ → List Value
+sent d [] mask at = []
+sent d (s ∷ ss) mask at = number (fieldOr d at (isSent s mask) (s .width) 0) ∷ sent d ss mask (behind at (isSent s mask) (s .width))

@@ -6,7 +6,7 @@ use mathlib.Core.List.{List, [], _∷_}
 use mathlib.Core.Bool.{Bool, true, false, cond, not}
 use Prim.Native.Nat.{ℕ, zero, suc, _+_, _*_, _/_, _%_, _^_, _<_, _≤_}
 use native.Mathlib.Omega.{arith}
-use lib.ListN.{length, take, drop}
+use lib.ListN.{length, take, drop, getD}
 use lib.Seq.{take-take, length-take-le}
 use Rattle.dem.specs.Kind
 use Rattle.dem.specs.Limits.{entityCount}
@@ -14,17 +14,19 @@ use Rattle.dem.specs.Bytes.{found, leRead, free, bit, bitOf, isSet}
 use Rattle.dem.specs.Layout.{Value, number, Layout, done, field, put, parse}
 use Rattle.dem.specs.Masked.{Slot, Mask, isSent, slotLayout, fillSlots}
 use Rattle.dem.specs.Scene.{zeroBaseline}
-use Rattle.dem.specs.Message.{entityRule, highBit, recordBit, wideBit, highRule, updateMask, updateSlots, entityLayout, updateLayout, fillUpdate}
+use Rattle.dem.specs.Message.{entityRule, highBit, recordBit, wideBit, highRule, updateMask, updateSlots, entityLayout, updateLayout, fillUpdate, sendUpdate}
 use Rattle.dem.proofs.ByteLaws.{bit-div}
-use Rattle.dem.proofs.AtLaws.{parse-done, parse-good}
+use Rattle.dem.proofs.AtLaws.{parse-done, parse-good, one-at}
 use Rattle.dem.proofs.UpdateLaws.{entity-good}
 use Rattle.masked.proofs.MaskLaws.{update-mask}
 use Rattle.scene.specs.Views.{baselineNumbers, recordValues}
 use Rattle.scene.specs.declared.Baseline.{Baseline}
-use Rattle.quick.specs.Spread.{fieldOr, behind, spread, passed, filledAt}
-use Rattle.quick.specs.Heads.{highAt, maskAt, entityWidth, headAt}
+use Rattle.quick.specs.Spread.{fieldOr, behind, spread, passed, needlessIn, filledAt}
+use Rattle.quick.specs.Heads.{highAt, maskAt, entityWidth, headAt, needlessHead}
 use Rattle.quick.specs.declared.UpdateHead.{UpdateHead}
 use Rattle.quick.specs.declared.RecordAt.{RecordAt}
+use Rattle.quick.proofs.Fields.{sent}
+use Rattle.quick.proofs.NormalLaws.{update-kept}
 
 -- Bytes in front of the end are the same in the bytes up to the end.
 before-end : (w p end : ℕ) (d : List ℕ) → p + w ≤ end → take w (drop p (take end d)) ≡ take w (drop p d)
@@ -33,11 +35,7 @@ before-end w (suc p) zero d h = let z : ⊥ = omega arith in absurd z
 before-end w (suc p) (suc end) [] h = refl
 before-end w (suc p) (suc end) (x ∷ d) h = before-end w p end d (omega arith)
 
--- ---- slots as sent: 0 for one that is not
-
-unfoldable pub sent : List ℕ → List Slot → Mask → ℕ → List Value
-sent d [] mask at = []
-sent d (s ∷ ss) mask at = number (fieldOr d at (isSent s mask) (s .width) 0) ∷ sent d ss mask (behind at (isSent s mask) (s .width))
+-- ---- slots as sent
 
 sent-read : (d : List ℕ) (at : ℕ) (b : Bool) (w : ℕ) → leRead (take (cond b w 0) (drop at d)) ≡ fieldOr d at b w 0
 unfolding fieldOr
@@ -92,7 +90,8 @@ high-good high n h =
     let e : bit high 7 ≡ false = bit-div high 7 ∙ ap isSet z in
     rw e
 
--- What the block holds at a place behind the number n: an update that ends where the fields did, and fills in to their record.
+-- What the block holds at a place behind the number n: an update that ends where the fields did, and fills in to their record; and where
+-- nothing was sent needlessly, it is its own normal form.
 pub record QuickUpdate (d : List ℕ) (end at n : ℕ) (b : Baseline) (h : UpdateHead) (f : RecordAt) : Type 0 where
   pub high : ℕ
   pub masked : h .mask ≡ high * 256 + n
@@ -100,6 +99,8 @@ pub record QuickUpdate (d : List ℕ) (end at n : ℕ) (b : Baseline) (h : Updat
   pub parsed : parse (updateLayout n) (drop at (take end d)) ≡ found (number high ∷ number (h .entity) ∷ sent) (drop (f .next) (take end d))
   pub filled : fillUpdate (baselineNumbers b) n (number high ∷ number (h .entity) ∷ sent)
       ≡ number Kind.update ∷ number (h .entity) ∷ recordValues (f .record)
+  pub kept : f .needless ≡ false → needlessHead (h .mask) (h .entity) ≡ false
+      → sendUpdate (baselineNumbers b) (number (h .entity) ∷ recordValues (f .record)) ≡ number n ∷ number high ∷ number (h .entity) ∷ sent
 
 module _ (d : List ℕ) (end at n : ℕ) (b : Baseline) (inside : end ≤ length d) (small : n < 256) where
   slots : List Slot
@@ -154,13 +155,35 @@ module _ (d : List ℕ) (end at n : ℕ) (b : Baseline) (inside : end ≤ length
       (ap (λ (m : Mask). bitOf (m recordBit)) (sym same))
       (ap (λ (m : Mask). fillSlots slots m (sent d slots (bit mask) next)) (sym same) ∙ slots-filled d slots (bit mask) next)
 
+  lacking : bit n highBit ≡ false → high ≡ 0
+  unfolding high fieldOr
+  lacking q = ap (λ (x : Bool). fieldOr d at x 1 0) q
+
+  narrow : next ≤ end → ((i : ℕ) → getD d i 0 < 256) → bit mask wideBit ≡ false → entity < 256
+  unfolding entity next
+  narrow l bytes q =
+      let w : entityWidth mask ≡ 1 = ap (λ (x : Bool). suc (bitOf x)) q in
+      let e : leRead (take (entityWidth mask) (drop place d)) ≡ leRead (take 1 (drop place d)) = ap (λ (w : ℕ). leRead (take w (drop place d))) w in
+      omega (arith, e, w, l, one-at place d (omega arith), bytes place)
+
+  head-kept : 128 ≤ n → mask < 32768 → passed slots (bit mask) next ≤ end → ((i : ℕ) → getD d i 0 < 256) → needlessHead mask entity ≡ false
+      → needlessIn d slots (bit mask) next false ≡ false
+      → sendUpdate (baselineNumbers b) (number entity ∷ filledAt d (baselineNumbers b) mask next)
+      ≡ number n ∷ number high ∷ number entity ∷ sent d slots (bit mask) next
+  unfolding slots mask high
+  head-kept update low l bytes needed every =
+      update-kept d (baselineNumbers b) n high entity next small update low needed lacking
+      (narrow (omega (arith, passed-up slots (bit mask) next)) bytes) every
+
   pub quick-update : (h : UpdateHead) (f : RecordAt) → h ≡ headAt d at n
       → recordValues (f .record) ≡ filledAt d (baselineNumbers b) (h .mask) (h .next)
       → f .next ≡ passed (updateSlots (baselineNumbers b)) (bit (h .mask)) (h .next)
       → h .mask < 32768 → h .entity < entityCount → f .next ≤ end
+      → f .needless ≡ needlessIn d (updateSlots (baselineNumbers b)) (bit (h .mask)) (h .next) false → 128 ≤ n
+      → ((i : ℕ) → getD d i 0 < 256)
       → QuickUpdate d end at n b h f
   unfolding headAt slots mask entity next place high
-  quick-update h f eh ev en low known l =
+  quick-update h f eh ev en low known l eo update bytes =
       let em : h .mask ≡ mask = ap (λ (h : UpdateHead). h .mask) eh in
       let ee : h .entity ≡ entity = ap (λ (h : UpdateHead). h .entity) eh in
       let ex : h .next ≡ next = ap (λ (h : UpdateHead). h .next) eh in
@@ -176,4 +199,11 @@ module _ (d : List ℕ) (end at n : ℕ) (b : Baseline) (inside : end ≤ length
             head-filled (h .entity)
             ∙ ap (λ (vs : List Value). number Kind.update ∷ number (h .entity) ∷ vs)
             (ap₂ (λ (m x : ℕ). filledAt d (baselineNumbers b) m x) (sym em) (sym ex) ∙ sym ev);
+        kept =
+            λ none needed.
+            ap₂ (λ (e : ℕ) (vs : List Value). sendUpdate (baselineNumbers b) (number e ∷ vs)) ee
+            (ev ∙ ap₂ (λ (m x : ℕ). filledAt d (baselineNumbers b) m x) em ex)
+            ∙ head-kept update (rw em at low) (rw ef at l) bytes (ap₂ needlessHead (sym em) (sym ee) ∙ needed)
+            (ap₂ (λ (m x : ℕ). needlessIn d slots (bit m) x false) (sym em) (sym ex) ∙ sym eo ∙ none)
+            ∙ ap (λ (e : ℕ). number n ∷ number high ∷ number e ∷ sent d slots (bit mask) next) (sym ee);
       }

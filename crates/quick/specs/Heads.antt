@@ -1,6 +1,8 @@
 -- An update's mask and entity.
 use mathlib.Core.List.{List}
+use mathlib.Core.Bool.{Bool, _&&_, _||_}
 use Prim.Native.Nat.{ℕ, suc, _+_, _*_}
+use lib.Dec.{ltb}
 use lib.ListN.{take, drop}
 use Rattle.dem.specs.Bytes.{leRead, bit, bitOf}
 use Rattle.dem.specs.Message.{highBit, wideBit}
@@ -23,3 +25,8 @@ headAt d at low =
     let w = entityWidth (maskAt d at low) in
     let q = behind at (bit low highBit) 1 in
     record { mask = maskAt d at low; entity = leRead (take w (drop q d)); next = q + w }
+
+-- Whether a mask, with the number in its low byte, is sent with a byte of high bits that is 0, or an entity in two bytes that has room
+-- in one.
+unfoldable pub needlessHead : ℕ → ℕ → Bool
+needlessHead mask entity = bit mask highBit && ltb mask 256 || bit mask wideBit && ltb entity 256

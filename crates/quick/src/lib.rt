@@ -12,12 +12,13 @@ ghost use Rattle.dem.specs.Bytes.{leRead, bit};
 ghost use Rattle.dem.specs.Layout.{number};
 ghost use Rattle.dem.specs.Masked.{Mask};
 ghost use Rattle.dem.specs.Scene.{Context};
-ghost use Rattle.dem.specs.Message.{updateSlots, clientSlots};
+ghost use Rattle.dem.specs.Message.{updateSlots, clientSlots, sendClient};
 ghost use Rattle.wire.specs.Cursors.{gotten};
+ghost use Rattle.parts.specs.Kinds.{kindAt};
 ghost use Rattle.message.specs.Values.{lookValues, poseValues, motionValues, armsValues, suppliesValues};
 ghost use Rattle.scene.specs.Views.{baselineNumbers, recordValues, clientValues};
 ghost use Rattle.quick.specs.Spread.{fieldOr, behind, needlessOr, spread, passed, needlessIn, lookSlots, poseSlots, filledAt, suppliesSlots, clientFields, clientIn, clientAt};
-ghost use Rattle.quick.specs.Heads.{headAt};
+ghost use Rattle.quick.specs.Heads.{headAt, needlessHead};
 use message::Arms;
 use message::Look;
 use message::Motion;
@@ -251,6 +252,13 @@ pub fn update_head(d: &[u8], at: usize, low: u8) -> UpdateHead
     }
 }
 
+// Whether the byte of high mask bits, or the second of the entity, was sent needlessly.
+pub fn needless_head(mask: u16, entity: usize) -> bool
+    ensures { λ r. ⌜ r ≡ needlessHead mask entity ⌝ }
+{
+    ((mask % 2 != 0) & (mask < 256)) | (((mask >> 14) % 2 != 0) & (entity < 256))
+}
+
 // Also whether a field was sent needlessly.
 pub struct RecordAt {
     pub record: Record,
@@ -425,6 +433,7 @@ const CLIENT_SIZE: usize = 25;
 // Where too few bytes follow, or a reserved bit is set, the reader that names refusals decides.
 pub fn client_at(s: &[u8], at: usize) -> ClientAt
     ensures { λ r. ⌜ ((x : Context) → gotten (now (s .entry)) (number Kind.clientdata ∷ clientValues (r .client)) (r .cursor) ≡ clientAt (now (s .entry)) at x) ⌝ }
+    ensures kept { λ r. ⌜ ((x : Context) → r .needless ≡ false → gotten (now (s .entry)) (sendClient (clientValues (r .client))) (r .cursor) ≡ kindAt (now (s .entry)) (record { at = at; refusal = 0 }) x Kind.clientdata) ⌝ }
 {
     if at <= s.len() {
         if CLIENT_SIZE <= s.len() - at {

@@ -2,14 +2,18 @@
 -- Assumes nothing.
 use mathlib.Core.Path.{sym, ap, _∙_}
 use mathlib.Core.List.{List, _∷_}
+use mathlib.Core.Bool.{true≢false}
+use Prim.Native.Nat.{_+_, _≤_}
 use native.Mathlib.Omega.{arith}
-use Rattle.dem.specs.Bytes.{mapResult}
+use lib.ListN.{length}
+use Rattle.dem.specs.Bytes.{mapResult, bit}
 use Rattle.dem.specs.Layout.{Value, number, tail}
 use Rattle.dem.specs.Message.{fillClient}
 use Rattle.message.specs.Values.{clientValues}
 use Rattle.wire.specs.Cursors.{gotten}
+use Rattle.quick.specs.Spread.{passed, clientFields}
 use Rattle.quick.proofs.Fields.{bit-clear}
-use Rattle.quick.proofs.ClientLaws.{client-good, gotten-map, client-found}
+use Rattle.quick.proofs.ClientLaws.{client-good, gotten-map, client-found, client-again}
 use borrow.Author.Needs.{needs}
 use Rattle.quick.proofs.client_at.Statement.{statement}
 use Rattle.quick.proofs.client_at.Tie as tie
@@ -27,13 +31,17 @@ client-fields-requires : tie.Need-client-fields-requires
 client-fields-requires c κs = search needs
 
 returns : tie.Need-returns
-returns c x =
+returns c =
     let a = c .before .before .before .before .before .before .before .before .args in
     let w = c .before .before .before .before .word-in in
     let f = c .before .client-fields in
-    client-found (a .s .now) (a .at) (w .result) (omega arith) (sym (w .ensures))
-    (client-good (w .result) (bit-clear (w .result) 8 (c .before .before .before .if3 .taken)) (c .before .before .if4 .taken))
-    (omega (arith, f .ensures .1 .0, f .ensures .1 .1 .1)) _ _ (f .ensures .0) (f .ensures .1 .0) x
+    let low = c .before .before .if4 .taken in
+    let eight = bit-clear (w .result) 8 (c .before .before .before .if3 .taken) in
+    let good = client-good (w .result) eight low in
+    let inside : passed clientFields (bit (w .result)) (a .at + 2) ≤ length (a .s .now) = omega (arith, f .ensures .1 .0, f .ensures .1 .1 .1) in (
+      client-found (a .s .now) (a .at) (w .result) (omega arith) (sym (w .ensures)) good inside _ _ (f .ensures .0) (f .ensures .1 .0),
+      client-again (a .s .now) (a .at) (w .result) (omega arith) (sym (w .ensures)) good inside _ _ _ low eight (f .ensures .0) (f .ensures .1 .0) (f .ensures .1 .1 .0),
+    )
 
 clientdata-at-requires : tie.Need-clientdata-at-requires
 clientdata-at-requires c κs = search needs
@@ -42,12 +50,15 @@ fill-client-requires : tie.Need-fill-client-requires
 fill-client-requires c κs = search needs
 
 returns-2 : tie.Need-returns-2
-returns-2 c x =
+returns-2 c =
     let a = c .before .before .before .before .before .before .args in
-    let t = c .before .before .before .clientdata-at in
-    ap (λ (vs : List Value). gotten (a .s .now) vs (t .result .cursor)) (c .fill-client .ensures)
-    ∙ gotten-map (a .s .now) (λ vs. fillClient (tail vs)) (number 15 ∷ clientValues (t .result .data)) (t .result .cursor)
-    ∙ ap (mapResult (λ vs. fillClient (tail vs))) (t .ensures x)
+    let t = c .before .before .before .clientdata-at in (
+      λ x.
+          ap (λ (vs : List Value). gotten (a .s .now) vs (t .result .cursor)) (c .fill-client .ensures)
+          ∙ gotten-map (a .s .now) (λ vs. fillClient (tail vs)) (number 15 ∷ clientValues (t .result .data)) (t .result .cursor)
+          ∙ ap (mapResult (λ vs. fillClient (tail vs))) (t .ensures x),
+      λ x e. absurd (true≢false e),
+    )
 
 pub client-at-spec : {M : Type 1} → statement M
 client-at-spec =

@@ -13,7 +13,7 @@ ghost use Rattle.dem.specs.Message.{layout, highByte, updateNumber, updateSlots
 ghost use Rattle.dem.specs.Recording.{angleLayout};
 ghost use Rattle.message.specs.Values.{lookValues, armsValues};
 ghost use Rattle.scene.specs.Views.{baselineNumbers, recordValues, clientValues, filledSoundValues};
-ghost use Rattle.normal.specs.Put.{Put};
+ghost use Rattle.normal.specs.Put.{Put, Behind};
 ghost use Rattle.normal.specs.Sent.{sentBytes, defaults, bitsOf, bitsValues, fieldValues, lookSlots, poseSlots, updateBits, headBytes};
 ghost use Rattle.normal.specs.Client.{motionBits, motionBitsValues, fourSlots, clientFields, countsBytes, suppliesBytes};
 ghost use Rattle.normal.specs.Normal.{vectorBytes, placeBytes, otherBytes};
@@ -474,6 +474,43 @@ pub fn put_other(
     match m {
         Message::Sound(v) => put_sound(out, at, scene::fill_sound(v)),
         _ => put_copy(true, out, at, s, from, to),
+    }
+}
+
+// ---- behind input that is kept as it was read
+
+// How many bytes are put, and from where on the input is kept as it was read: that is not copied yet.
+pub struct Scratch {
+    pub size: usize,
+    pub kept: usize,
+}
+
+// An update anew, behind the input that stands in front of it: from `kept` to `at`. From `to` on the input is kept again.
+pub fn put_update_behind(
+    anew: bool,
+    out: &mut [u8],
+    size: usize,
+    s: &[u8],
+    kept: usize,
+    at: usize,
+    to: usize,
+    entity: usize,
+    r: Record,
+    b: Baseline,
+) -> Scratch
+    requires { ⌜ (kept ≤ at) × (at ≤ length (now s)) × (size + (at - kept) + 24 ≤ length (now out)) ⌝ }
+    ensures { λ q. ⌜ ((x : Context) → Behind anew (now (out .entry)) (now (out .exit)) size kept (q .size) (q .kept) to (take (at - kept) (drop kept (now (s .entry))) ++ print (layout x) (sendUpdate (baselineNumbers b) (number entity ∷ recordValues r)))) ⌝ }
+{
+    if !anew {
+        return Scratch { size, kept };
+    }
+    let record = r;
+    let baseline = b;
+    let a = put_copy(true, out, size, s, kept, at);
+    let end = put_update(true, out, a, entity, record, baseline);
+    Scratch {
+        size: end,
+        kept: to,
     }
 }
 

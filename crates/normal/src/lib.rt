@@ -514,6 +514,32 @@ pub fn put_update_behind(
     }
 }
 
+// Clientdata anew, likewise.
+pub fn put_client_behind(
+    anew: bool,
+    out: &mut [u8],
+    size: usize,
+    s: &[u8],
+    kept: usize,
+    at: usize,
+    to: usize,
+    c: Client,
+) -> Scratch
+    requires { ⌜ (kept ≤ at) × (at ≤ length (now s)) × (size + (at - kept) + 32 ≤ length (now out)) ⌝ }
+    ensures { λ q. ⌜ ((x : Context) → Behind anew (now (out .entry)) (now (out .exit)) size kept (q .size) (q .kept) to (take (at - kept) (drop kept (now (s .entry))) ++ print (layout x) (sendClient (clientValues c)))) ⌝ }
+{
+    if !anew {
+        return Scratch { size, kept };
+    }
+    let client = c;
+    let a = put_copy(true, out, size, s, kept, at);
+    let end = put_client(true, out, a, client);
+    Scratch {
+        size: end,
+        kept: to,
+    }
+}
+
 // ---- a block
 
 // A block's head, then the first `size` bytes of the body; into lent room, of which every byte is promised.

@@ -2,7 +2,7 @@
 // and the place moves on only where it is sent: no field needs a branch of its own.
 ghost use mathlib.Core.Path.{_≡_};
 ghost use mathlib.Core.List.{List, [], _∷_, _++_};
-ghost use mathlib.Core.Bool.{Bool, true, cond};
+ghost use mathlib.Core.Bool.{Bool, true, cond, _&&_};
 ghost use Prim.Native.Nat.{ℕ, _+_, _-_, _*_, _^_, _≤_, _<_};
 ghost use lib.ListN.{length, take, drop};
 ghost use lib.Seq.{sets};
@@ -16,7 +16,7 @@ ghost use Rattle.scene.specs.Views.{baselineNumbers, recordValues, clientValues
 ghost use Rattle.normal.specs.Put.{Put, Behind};
 ghost use Rattle.normal.specs.Sent.{sentBytes, defaults, bitsOf, bitsValues, fieldValues, lookSlots, poseSlots, updateBits, headBytes};
 ghost use Rattle.normal.specs.Client.{motionBits, motionBitsValues, fourSlots, clientFields, countsBytes, suppliesBytes};
-ghost use Rattle.normal.specs.Normal.{vectorBytes, placeBytes, otherBytes};
+ghost use Rattle.normal.specs.Normal.{vectorBytes, placeBytes, otherBytes, isSound};
 ghost use Rattle.normal.specs.Kept.{normalBits, readOrAnew};
 use message::Arms;
 use message::Look;
@@ -537,6 +537,36 @@ pub fn put_client_behind(
     Scratch {
         size: end,
         kept: to,
+    }
+}
+
+// A sound anew, likewise; every other message is kept as it was read.
+pub fn put_sound_behind(
+    on: bool,
+    out: &mut [u8],
+    size: usize,
+    s: &[u8],
+    kept: usize,
+    at: usize,
+    to: usize,
+    m: Message,
+) -> Scratch
+    requires { ⌜ (kept ≤ at) × (at ≤ length (now s)) × (size + (at - kept) + 16 ≤ length (now out)) ⌝ }
+    ensures { λ q. ⌜ ((x : Context) → Behind (on && isSound m) (now (out .entry)) (now (out .exit)) size kept (q .size) (q .kept) to (take (at - kept) (drop kept (now (s .entry))) ++ otherBytes x (now (s .entry)) at to m)) ⌝ }
+{
+    if !on {
+        return Scratch { size, kept };
+    }
+    match m {
+        Message::Sound(v) => {
+            let a = put_copy(true, out, size, s, kept, at);
+            let end = put_sound(out, a, scene::fill_sound(v));
+            Scratch {
+                size: end,
+                kept: to,
+            }
+        }
+        _ => Scratch { size, kept },
     }
 }
 

@@ -3,7 +3,7 @@
 use mathlib.Core.Path.{_≡_, refl, sym, ap, ap₂, _∙_}
 use mathlib.Core.List.{List, [], _∷_, _++_, append-assoc, append-nil}
 use mathlib.Core.Bool.{Bool, true, false, cond}
-use Prim.Native.Nat.{ℕ, suc, _+_, _*_, _/_, _%_, _≤_, _<_}
+use Prim.Native.Nat.{ℕ, zero, suc, _+_, _*_, _/_, _%_, _≤_, _<_}
 use native.Mathlib.Omega.{arith}
 use native.Mathlib.Numerals.{add-one}
 use lib.ListN.{length, take, drop, getD, set, length-append, length-set, length-drop}
@@ -11,7 +11,7 @@ use lib.Seq.{sets, sets-eq, length-sets, length-take-le, take-at, take-set-le, t
 use Rattle.dem.specs.Bytes.{leWrite}
 use Rattle.dem.specs.Layout.{Value, asNumber}
 use Rattle.dem.specs.Masked.{Slot, differs}
-use Rattle.normal.specs.Put.{Put}
+use Rattle.normal.specs.Put.{Put, Behind}
 use Rattle.normal.specs.Sent.{sentBytes}
 
 pub put-none : (l : List ℕ) (at : ℕ) → Put l l at at []
@@ -132,3 +132,18 @@ copy-end before l s at from n k h m g e q =
       e,
       omega (arith, length-take-le n (drop from s) (omega (arith, length-drop from s))),
     )
+
+-- ---- behind input that is kept as it was read
+
+pub taken-most : (n : ℕ) (l : List ℕ) → length (take n l) ≤ n
+taken-most zero l = omega arith
+taken-most (suc n) [] = omega arith
+taken-most (suc n) (x ∷ l) = omega (arith, taken-most n l)
+
+module _ (anew : Bool) where
+  pub behind-nothing : (l : List ℕ) (size kept to : ℕ) (bytes : List ℕ) → anew ≡ false → Behind anew l l size kept size kept to bytes
+  behind-nothing l size kept to bytes e = rw e (refl, refl, refl)
+
+  pub behind-put : (a b c : List ℕ) (size kept q r to : ℕ) (xs ys : List ℕ) → anew ≡ true → Put a b size q xs → Put b c q r ys
+      → Behind anew a c size kept r to to (xs ++ ys)
+  behind-put a b c size kept q r to xs ys e f g = rw e (put-then a b c size q r xs ys f g, refl)

@@ -2,7 +2,8 @@
 -- Assumes nothing.
 use mathlib.Core.Path.{_≡_, refl, sym, ap, _∙_}
 use mathlib.Core.List.{List, [], _∷_, _++_}
-use mathlib.Core.Option.{Option, none}
+use mathlib.Core.Bool.{false, true≢false}
+use mathlib.Core.Option.{Option, none, some}
 use Prim.Native.Nat.{ℕ, _+_, _-_, _*_, _%_}
 use native.Mathlib.Omega.{arith}
 use lib.ListN.{take, drop}
@@ -25,7 +26,7 @@ use Rattle.scene.specs.Views.{filledSoundValues}
 use Rattle.scene.specs.declared.FilledSound.{FilledSound}
 use Rattle.normal.specs.Put.{Put}
 use Rattle.normal.specs.Sent.{sentBytes}
-use Rattle.normal.specs.Normal.{vectorBytes, placeBytes, soundOf, soundBytes, otherBytes}
+use Rattle.normal.specs.Normal.{vectorBytes, placeBytes, soundOf, isThere, isSound, soundBytes, otherBytes}
 use Rattle.normal.proofs.PutLaws.{put-same, put-then, second-byte}
 use Rattle.normal.proofs.UpdateBytes.{slot-bytes}
 
@@ -130,3 +131,11 @@ module _ (x : Context) (s : List ℕ) (from to : ℕ) (m : Message) where
 
   pub other-copied : soundOf m ≡ none → take (to - from) (drop from s) ≡ otherBytes x s from to m
   other-copied e = ap (λ (o : Option Sound). soundBytes x (take (to - from) (drop from s)) o) (sym e)
+
+-- A message that is no sound has the bytes that were read.
+pub kept-other : (x : Context) (s : List ℕ) (from to : ℕ) (m : Message) → isSound m ≡ false → otherBytes x s from to m ≡ take (to - from) (drop from s)
+kept-other x s from to m = go (soundOf m)
+  where
+    go : (o : Option Sound) → isThere o ≡ false → soundBytes x (take (to - from) (drop from s)) o ≡ take (to - from) (drop from s)
+    go none e = refl
+    go (some v) e = absurd (true≢false e)

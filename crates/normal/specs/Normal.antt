@@ -1,5 +1,6 @@
 -- The bytes of a message that is neither an update nor clientdata.
 use mathlib.Core.List.{List, _++_}
+use mathlib.Core.Bool.{Bool, true, false}
 use mathlib.Core.Option.{Option, none, some}
 use Prim.Native.Nat.{ℕ, _+_, _-_, _*_}
 use lib.ListN.{take, drop}
@@ -59,6 +60,13 @@ soundOf (M.Track _ _) = none
 soundOf M.Sellscreen = none
 soundOf (M.Cutscene _) = none
 soundOf (M.Update _) = none
+
+abbrev pub isThere : Option Sound → Bool
+isThere none = false
+isThere (some _) = true
+
+abbrev pub isSound : Message → Bool
+isSound m = isThere (soundOf m)
 
 -- A sound in normal form; without one, the bytes as they were read.
 abbrev pub soundBytes : Context → List ℕ → Option Sound → List ℕ

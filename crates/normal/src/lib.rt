@@ -2,7 +2,7 @@
 // and the place moves on only where it is sent: no field needs a branch of its own.
 ghost use mathlib.Core.Path.{_≡_};
 ghost use mathlib.Core.List.{List, [], _∷_, _++_};
-ghost use mathlib.Core.Bool.{Bool, true, cond};
+ghost use mathlib.Core.Bool.{Bool, true, cond, _&&_};
 ghost use Prim.Native.Nat.{ℕ, _+_, _-_, _*_, _^_, _≤_, _<_};
 ghost use lib.ListN.{length, take, drop};
 ghost use lib.Seq.{sets};
@@ -13,10 +13,10 @@ ghost use Rattle.dem.specs.Message.{layout, highByte, updateNumber, updateSlots
 ghost use Rattle.dem.specs.Recording.{angleLayout};
 ghost use Rattle.message.specs.Values.{lookValues, armsValues};
 ghost use Rattle.scene.specs.Views.{baselineNumbers, recordValues, clientValues, filledSoundValues};
-ghost use Rattle.normal.specs.Put.{Put};
+ghost use Rattle.normal.specs.Put.{Put, Behind};
 ghost use Rattle.normal.specs.Sent.{sentBytes, defaults, bitsOf, bitsValues, fieldValues, lookSlots, poseSlots, updateBits, headBytes};
 ghost use Rattle.normal.specs.Client.{motionBits, motionBitsValues, fourSlots, clientFields, countsBytes, suppliesBytes};
-ghost use Rattle.normal.specs.Normal.{vectorBytes, placeBytes, otherBytes};
+ghost use Rattle.normal.specs.Normal.{vectorBytes, placeBytes, otherBytes, isSound};
 ghost use Rattle.normal.specs.Kept.{normalBits, readOrAnew};
 use message::Arms;
 use message::Look;
@@ -474,6 +474,99 @@ pub fn put_other(
     match m {
         Message::Sound(v) => put_sound(out, at, scene::fill_sound(v)),
         _ => put_copy(true, out, at, s, from, to),
+    }
+}
+
+// ---- behind input that is kept as it was read
+
+// How many bytes are put, and from where on the input is kept as it was read: that is not copied yet.
+pub struct Scratch {
+    pub size: usize,
+    pub kept: usize,
+}
+
+// An update anew, behind the input that stands in front of it: from `kept` to `at`. From `to` on the input is kept again.
+pub fn put_update_behind(
+    anew: bool,
+    out: &mut [u8],
+    size: usize,
+    s: &[u8],
+    kept: usize,
+    at: usize,
+    to: usize,
+    entity: usize,
+    r: Record,
+    b: Baseline,
+) -> Scratch
+    requires { ⌜ (kept ≤ at) × (at ≤ length (now s)) × (size + (at - kept) + 24 ≤ length (now out)) ⌝ }
+    ensures { λ q. ⌜ ((x : Context) → Behind anew (now (out .entry)) (now (out .exit)) size kept (q .size) (q .kept) to (take (at - kept) (drop kept (now (s .entry))) ++ print (layout x) (sendUpdate (baselineNumbers b) (number entity ∷ recordValues r)))) ⌝ }
+{
+    if !anew {
+        return Scratch { size, kept };
+    }
+    let record = r;
+    let baseline = b;
+    let a = put_copy(true, out, size, s, kept, at);
+    let end = put_update(true, out, a, entity, record, baseline);
+    Scratch {
+        size: end,
+        kept: to,
+    }
+}
+
+// Clientdata anew, likewise.
+pub fn put_client_behind(
+    anew: bool,
+    out: &mut [u8],
+    size: usize,
+    s: &[u8],
+    kept: usize,
+    at: usize,
+    to: usize,
+    c: Client,
+) -> Scratch
+    requires { ⌜ (kept ≤ at) × (at ≤ length (now s)) × (size + (at - kept) + 32 ≤ length (now out)) ⌝ }
+    ensures { λ q. ⌜ ((x : Context) → Behind anew (now (out .entry)) (now (out .exit)) size kept (q .size) (q .kept) to (take (at - kept) (drop kept (now (s .entry))) ++ print (layout x) (sendClient (clientValues c)))) ⌝ }
+{
+    if !anew {
+        return Scratch { size, kept };
+    }
+    let client = c;
+    let a = put_copy(true, out, size, s, kept, at);
+    let end = put_client(true, out, a, client);
+    Scratch {
+        size: end,
+        kept: to,
+    }
+}
+
+// A sound anew, likewise; every other message is kept as it was read.
+pub fn put_sound_behind(
+    on: bool,
+    out: &mut [u8],
+    size: usize,
+    s: &[u8],
+    kept: usize,
+    at: usize,
+    to: usize,
+    m: Message,
+) -> Scratch
+    requires { ⌜ (kept ≤ at) × (at ≤ length (now s)) × (size + (at - kept) + 16 ≤ length (now out)) ⌝ }
+    ensures { λ q. ⌜ ((x : Context) → Behind (on && isSound m) (now (out .entry)) (now (out .exit)) size kept (q .size) (q .kept) to (take (at - kept) (drop kept (now (s .entry))) ++ otherBytes x (now (s .entry)) at to m)) ⌝ }
+{
+    if !on {
+        return Scratch { size, kept };
+    }
+    match m {
+        Message::Sound(v) => {
+            let a = put_copy(true, out, size, s, kept, at);
+            let end = put_sound(out, a, scene::fill_sound(v));
+            Scratch {
+                size: end,
+                kept: to,
+            }
+        }
+        _ => Scratch { size, kept },
     }
 }
 

@@ -75,7 +75,7 @@ module _ (s : List ℕ) (at mask : ℕ) (whole : at + 2 ≤ length s) (read : le
       ∙ gotten-map s (λ ws. fillClient (tail ws)) (number Kind.clientdata ∷ number mask ∷ fields) (here (passed clientFields (bit mask) (at + 2)))
       ∙ ap (mapResult (λ ws. fillClient (tail ws))) (client-parsed x)
 
-  -- Where nothing was sent needlessly, by code's test of the bit that always is set, it is its own normal form.
+  -- Where nothing was sent needlessly, and bit 9 is set, which code tests and the normal form always sets, it is its own normal form.
   pub client-again : (vs : List Value) (next : ℕ) (flag : Bool) → mask < 32768 → bit mask 8 ≡ false → vs ≡ clientIn s mask (at + 2)
       → next ≡ passed clientFields (bit mask) (at + 2) → flag ≡ needlessIn s clientFields (bit mask) (at + 2) (eqb (mask / 2 ^ 9 % 2) 0)
       → (x : Context) → flag ≡ false → gotten s (sendClient vs) (here next) ≡ kindAt s (here at) x Kind.clientdata

@@ -27,8 +27,6 @@ use Rattle.dem.proofs.ResultLaws.{clash}
 use Rattle.dem.proofs.ByteLaws.{drop-bytes}
 use Rattle.dem.proofs.BlockLaws.{message-lawful}
 use Rattle.normal.specs.Normal.{soundOf, soundBytes, otherBytes}
-use Rattle.normal.specs.Kept.{normalBits, readOrAnew}
-use Rattle.normal.proofs.KeptLaws.{kept-update}
 use Rattle.dem.proofs.LayoutLaws.{Allowed, and-true, parse-sound}
 use Rattle.dem.proofs.AtLaws.{one-at, parse-good}
 use Rattle.dem.proofs.MessageLaws.{kind-update, fill-update, fill-client}
@@ -290,26 +288,15 @@ module _ (s : List ℕ) (at : ℕ) (l : at < length s) (b : List Baseline) (e : 
             normal = update-normal i r (number n ∷ us) filled;
           }
 
-      -- Where its mask is the one of its normal form, its bytes are those that it was read from.
-      pub kept-form : Bytes s → n < 256 → (mask len : ℕ) (bs : List ℕ) → mask ≡ high * 256 + n → take len bs ≡ take (to - at) (drop at s)
-          → readOrAnew (contextOf (held b e p x)) (baselineNumbers (getD b i noBaseline)) (number i ∷ recordValues r) mask len bs ≡ updateForm i r
+      -- Where it is its own normal form, its bytes are those that it was read from.
+      pub kept-form : Bytes s → sendUpdate (baselineNumbers (getD b i noBaseline)) (number i ∷ recordValues r) ≡ number n ∷ number high ∷ number i ∷ sent
+          → updateForm i r ≡ take (to - at) (drop at s)
       unfolding writeMessage
-      kept-form h small mask len bs em eb =
-          go (eqb (normalBits (baselineNumbers (getD b i noBaseline)) (number i ∷ recordValues r)) mask && leb len 18) refl
-        where
-          go : (c : Bool) → (eqb (normalBits (baselineNumbers (getD b i noBaseline)) (number i ∷ recordValues r)) mask && leb len 18) ≡ c
-              → cond c (take len bs) (print (layoutIn (held b e p x)) (sendUpdate (baselineNumbers (getD b i noBaseline)) (number i ∷ recordValues r))) ≡ updateForm i r
-          go false e′ = refl
-          go true e′ =
-              let t = held b e p x in
-              let us : List Value = number high ∷ number i ∷ sent in
-              let same = and-true (eqb (normalBits (baselineNumbers (getD b i noBaseline)) (number i ∷ recordValues r)) mask) (leb len 18) e′ .0 in
-              eb
-              ∙ sym (copied s at to (writeMessage t (number n ∷ us)) l
-              (message-lawful .sound t (drop at s) (number n ∷ us) (drop to s) (drop-bytes at s h) quick-read .tiles))
-              ∙ ap (print (layoutIn t))
-              (sym (kept-update (baselineNumbers (getD b i noBaseline)) n high i sent (recordValues r) small
-              (parse-sound (updateLayout n) (drop (at + 1) s) us (drop to s) (drop-bytes (at + 1) s h) q .fits) f (eqb-true _ _ same ∙ em)))
+      kept-form h same =
+          let t = held b e p x in
+          ap (print (layoutIn t)) same
+          ∙ copied s at to (writeMessage t (number n ∷ number high ∷ number i ∷ sent)) l
+          (message-lawful .sound t (drop at s) (number n ∷ number high ∷ number i ∷ sent) (drop to s) (drop-bytes at s h) quick-read .tiles)
 
     -- ---- a time, and clientdata
 
@@ -321,6 +308,12 @@ module _ (s : List ℕ) (at : ℕ) (l : at < length s) (b : List Baseline) (e : 
     -- The bytes of clientdata.
     abbrev pub clientForm : Client → List ℕ
     clientForm k = print (layoutIn (held b e p x)) (sendClient (clientValues k))
+
+    -- Where it is its own normal form, likewise.
+    pub kept-client : Bytes s → (k : Client) (c : Cursor) → gotten s (sendClient (clientValues k)) c ≡ parseAt s (here at) (layoutIn (held b e p x)) → c .refusal ≡ 0
+        → clientForm k ≡ take (c .at - at) (drop at s)
+    unfolding writeMessage
+    kept-client h k c q z = parsed-bytes (sendClient (clientValues k)) c q h z
 
     pub client-moved : (us : List Value) (k : Client) (y : Rest) (c : Cursor)
         → gotten s (number 15 ∷ us) c ≡ parseAt s (here at) (layoutIn (held b e p x)) → c .refusal ≡ 0

@@ -167,6 +167,7 @@ pub fn write_blocks(
         let s = &d[..end];
         let stop = quick_until(d.len(), end);
         let mut size: usize = 0;
+        let mut kept = at;
         while at < s.len() {
             if rest.ended {
                 return refused_in(given, blocks, start, 11, at, written);
@@ -193,8 +194,21 @@ pub fn write_blocks(
                     break;
                 }
                 let record = f.record;
-                let len = to - at;
-                size = normal::put_read_update(on, &mut body, size, d, at, len, mask, i, record, b);
+                let needless = f.needless | quick::needless_head(mask, i);
+                let w = normal::put_update_behind(
+                    on & needless,
+                    &mut body,
+                    size,
+                    s,
+                    kept,
+                    at,
+                    to,
+                    i,
+                    record,
+                    b,
+                );
+                size = w.size;
+                kept = w.kept;
                 records[i] = record;
                 present[i] = true;
                 at = to;
@@ -221,10 +235,24 @@ pub fn write_blocks(
                     let i = entity.0 as usize;
                     let b = baselines[i];
                     let record = scene::fill_update(update, b);
-                    size = normal::put_update(on, &mut body, size, i, record, b);
+                    let to = next.at;
+                    let w = normal::put_update_behind(
+                        on,
+                        &mut body,
+                        size,
+                        s,
+                        kept,
+                        at,
+                        to,
+                        i,
+                        record,
+                        b,
+                    );
+                    size = w.size;
+                    kept = w.kept;
                     records[i] = record;
                     present[i] = true;
-                    at = next.at;
+                    at = to;
                 }
                 7 => {
                     let t = plain::time_at(s, c, context(rest));
@@ -233,12 +261,10 @@ pub fn write_blocks(
                     if wrong != 0 {
                         return refused_in(given, blocks, start, wrong, at, written);
                     }
-                    let to = next.at;
-                    size = normal::put_copy(on, &mut body, size, s, at, to);
                     present = [false; 449];
                     rest.timed = true;
                     rest.time = t.value;
-                    at = to;
+                    at = next.at;
                 }
                 15 => {
                     let t = quick::client_at(s, at + 1);
@@ -248,9 +274,21 @@ pub fn write_blocks(
                         return refused_in(given, blocks, start, wrong, at, written);
                     }
                     let client = t.client;
-                    size = normal::put_client(on, &mut body, size, client);
+                    let to = next.at;
+                    let w = normal::put_client_behind(
+                        on & t.needless,
+                        &mut body,
+                        size,
+                        s,
+                        kept,
+                        at,
+                        to,
+                        client,
+                    );
+                    size = w.size;
+                    kept = w.kept;
                     rest = scene::with_client(rest, client);
-                    at = next.at;
+                    at = to;
                 }
                 _ => {
                     let m = reader::read_message(s, at, context(rest));
@@ -261,7 +299,9 @@ pub fn write_blocks(
                     }
                     let message = m.message;
                     let to = next.at;
-                    size = normal::put_other(on, &mut body, size, s, at, to, message);
+                    let w = normal::put_sound_behind(on, &mut body, size, s, kept, at, to, message);
+                    size = w.size;
+                    kept = w.kept;
                     match message {
                         Message::Baseline(entity, look, pose) => {
                             let i = entity.0 as usize;
@@ -284,6 +324,7 @@ pub fn write_blocks(
             }
             messages += 1;
         }
+        size = normal::put_copy(on, &mut body, size, s, kept, at);
         let n = block_size(on, size);
         if room - written < n {
             return refused_in(given, blocks, start, 12, n, written);

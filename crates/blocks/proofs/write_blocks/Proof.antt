@@ -2,7 +2,7 @@
 -- block by its messages; each turn is one message, behind a run of updates each of which is one too, and the turns of a block are one block.
 -- Assumes nothing.
 use mathlib.Core.Path.{_≡_, refl, sym, ap, ap₂, _∙_, subst}
-use mathlib.Core.Bool.{Bool, true, false, cond, _&&_}
+use mathlib.Core.Bool.{Bool, true, false, cond, _&&_, _||_}
 use mathlib.Core.Logic.{⊎-elim}
 use Prim.Native.Nat.{ℕ, suc, _+_, _-_, _≤_, _<_}
 use native.Mathlib.Omega.{arith}
@@ -20,29 +20,32 @@ use Rattle.dem.specs.Bytes.{Bytes, Result, refused, leWrite}
 use Rattle.dem.specs.Kind
 use Rattle.dem.specs.Layout.{Value, number, print}
 use Rattle.dem.specs.Scene.{Scene, Context, contextOf, inRange}
-use Rattle.dem.specs.Message.{Message, isMessage, layoutIn, sendUpdate}
+use Rattle.dem.specs.Message.{Message, isMessage, layout, layoutIn, sendUpdate, sendClient}
 use Rattle.wire.specs.Cursors.{gotten, parseAt}
 use Rattle.wire.specs.declared.Cursor.{Cursor}
 use Rattle.wire.proofs.Sticky.{here}
-use Rattle.message.specs.Values.{valuesOf, updateValues, clientValues}
+use Rattle.message.specs.Values.{valuesOf, updateValues}
 use Rattle.parts.specs.Kinds.{kindAt}
 use Rattle.dem.specs.Codec.{readAll}
 use Rattle.dem.specs.Recording.{angleLayout, readMessage, messages, readBlock}
+use Rattle.dem.proofs.ResultLaws.{clash}
 use Rattle.dem.proofs.LayoutLaws.{and-true}
 use Rattle.dem.proofs.ByteLaws.{bytes-of, take-bytes}
 use Rattle.dem.proofs.RangeLaws.{range→}
 use Rattle.heads.proofs.HeadLaws.{block-ended}
-use Rattle.scene.specs.Views.{sceneWith, sceneOf, baselineNumbers, recordValues}
+use Rattle.scene.specs.Views.{sceneWith, sceneOf, baselineNumbers, recordValues, clientValues}
 use Rattle.scene.specs.declared.Baseline.{Baseline}
 use Rattle.scene.specs.declared.Record.{Record}
 use Rattle.scene.specs.declared.Rest.{Rest}
 use Rattle.quick.proofs.QuickLaws.{QuickUpdate, quick-update}
-use Rattle.normal.specs.Put.{Put}
-use Rattle.normal.specs.Kept.{readOrAnew}
+use Rattle.normal.specs.Put.{Put, Behind}
+use Rattle.normal.specs.Normal.{isSound}
+use Rattle.normal.proofs.SoundBytes.{kept-other}
 use Rattle.blocks.specs.Runs.{Told, refusedIn, answered, Wrote, stored, put, wroteOf, runOf, wrote}
 use Rattle.blocks.specs.declared.WrittenAt.{WrittenAt}
+use Rattle.blocks.proofs.SoFar.{and-false, or-false, soFar, far-begins, Grown, grown-kept, grown-behind}
 use Rattle.blocks.proofs.Turns.{Moved, front-kept, before-stop, head-refused, head-found, moved-less, moved-short, moved-range, blockBytes, block-length, put-block-there, put-length, closed, closed-short, closed-fits, inside, on-refused, on-moved, on-end, run-over, run-refused, run-opened}
-use Rattle.blocks.proofs.Arms.{held, noBaseline, quick-moved, kept-form, timed, ended-refused, kind-parsed, parsed-refused, parsed-less, update-parsed, update-known, update-moved, time-moved, ClientRead, client-read, client-moved, other-parsed, baseline-known, baseline-moved, serverinfo-moved, rest-moved}
+use Rattle.blocks.proofs.Arms.{held, noBaseline, quick-moved, kept-form, timed, ended-refused, kind-parsed, parsed-refused, parsed-less, update-parsed, update-known, update-moved, time-moved, ClientRead, client-read, kept-client, client-moved, other-parsed, baseline-known, baseline-moved, serverinfo-moved, rest-moved}
 use Rattle.blocks.proofs.write_blocks.Statement.{statement}
 use Rattle.blocks.proofs.write_blocks.Tie as tie
 use Rattle.blocks.proofs.write_blocks.Reads as reads
@@ -54,13 +57,13 @@ use Rattle.blocks.proofs.refused_in.Reads as refused-in-reads
 use Rattle.blocks.proofs.store_block.Reads as store-block-reads
 use Rattle.heads.proofs.read_head.Reads as read-head-reads
 use Rattle.masked.proofs.read_update.Reads as read-update-reads
-use Rattle.normal.proofs.put_client.Reads as put-client-reads
 use Rattle.normal.proofs.put_copy.Reads as put-copy-reads
-use Rattle.normal.proofs.put_other.Reads as put-other-reads
-use Rattle.normal.proofs.put_read_update.Reads as put-read-update-reads
-use Rattle.normal.proofs.put_update.Reads as put-update-reads
+use Rattle.normal.proofs.put_client_behind.Reads as put-client-behind-reads
+use Rattle.normal.proofs.put_sound_behind.Reads as put-sound-behind-reads
+use Rattle.normal.proofs.put_update_behind.Reads as put-update-behind-reads
 use Rattle.plain.proofs.time_at.Reads as time-at-reads
 use Rattle.quick.proofs.client_at.Reads as client-at-reads
+use Rattle.quick.proofs.needless_head.Reads as needless-head-reads
 use Rattle.quick.proofs.update_fields.Reads as update-fields-reads
 use Rattle.quick.proofs.update_head.Reads as update-head-reads
 use Rattle.reader.proofs.read_message.Reads as read-message-reads
@@ -71,30 +74,33 @@ use Rattle.scene.proofs.with_client.Reads as with-client-reads
 
 -- Messages of a block from one place to another: the bounds that are kept, and that what is told and written from the one place on is what is
 -- told and written from the other on.
-abbrev Along : (ℕ → Scene → List ℕ → Result (List Message) → Wrote) → List ℕ → ℕ → ℕ → Scene → List ℕ → ℕ → ℕ → Scene → List ℕ → ℕ → ℕ → Type 0
-Along told s end messages₀ scene₀ form₀ at₀ messages′ scene body at size =
-    (messages′ + (length s - at) ≤ end) × (size + (length s - at) ≤ 8000) × (length body ≡ 8064) × (inRange scene ≡ true)
-    × (told messages₀ scene₀ form₀ (readAll messages scene₀ (drop at₀ s)) ≡ told messages′ scene (take size body) (readAll messages scene (drop at s)))
+abbrev Along : (ℕ → Scene → List ℕ → Result (List Message) → Wrote) → Bool → List ℕ → ℕ → ℕ → Scene → List ℕ → ℕ → ℕ → Scene → List ℕ → ℕ → ℕ → ℕ → Type 0
+Along told on s end messages₀ scene₀ form₀ at₀ messages′ scene body at size kept =
+    (messages′ + (length s - at) ≤ end) × (size + (length s - kept) ≤ 8000) × (length body ≡ 8064) × (inRange scene ≡ true)
+    × (told messages₀ scene₀ form₀ (readAll messages scene₀ (drop at₀ s)) ≡ told messages′ scene (soFar on body size s kept at) (readAll messages scene (drop at s)))
+    × (kept ≤ at)
 
 -- The loop over messages.
 abbrev Inv-loop2 : tie.InvT-loop2
-Inv-loop2 d from most given on room out base baselines₀ records₀ present₀ rest₀ body₀ stores start blocks messages₀ written refusal h at₀ end s stop size₀ baselines records present rest body messages′ at size =
+Inv-loop2 d from most given on room out base baselines₀ records₀ present₀ rest₀ body₀ stores start blocks messages₀ written refusal h at₀ end s stop size₀ kept₀ baselines records present rest body messages′ at size kept =
     let angles = number (h .angle0) ∷ number (h .angle1) ∷ number (h .angle2) ∷ [] in
-    Along (inside (sceneOf given) d on stores room base blocks (most - blocks - 1) start end angles written out) s end
-    messages₀ (held baselines₀ records₀ present₀ rest₀) (take size₀ body₀) at₀ messages′ (held baselines records present rest) body at size
+    Along (inside (sceneOf given) d on stores room base blocks (most - blocks - 1) start end angles written out) on s end
+    messages₀ (held baselines₀ records₀ present₀ rest₀) [] at₀ messages′ (held baselines records present rest) body at size kept
 
 abbrev μ-loop2 : tie.MeasureT-loop2
-μ-loop2 d from most given on room out base baselines₀ records₀ present₀ rest₀ body₀ stores start blocks messages₀ written refusal h at₀ end s stop size₀ baselines records present rest body messages at size =
+μ-loop2 d from most given on room out base baselines₀ records₀ present₀ rest₀ body₀ stores start blocks messages₀ written refusal h at₀ end s stop size₀ kept₀ baselines records present rest body messages at size kept =
     length s - at
 
 -- The loop over updates inside it, which leaves the baselines and the rest as they are and does not go back.
 abbrev Inv-loop3 : tie.InvT-loop3
-Inv-loop3 d from most given on room out base baselines records₀ present₀ rest body₀ stores start blocks messages₀ written refusal h at₀ end s stop size₀ records present body messages at size =
-    Inv-loop2 d from most given on room out base baselines records₀ present₀ rest body₀ stores start blocks messages₀ written refusal h at₀ end s stop size₀ baselines records present rest body messages at size
+Inv-loop3 d from most given on room out base baselines records₀ present₀ rest body₀ stores start blocks messages₀ written refusal h at₀ end s stop size₀ kept₀ records present body messages at size kept =
+    let angles = number (h .angle0) ∷ number (h .angle1) ∷ number (h .angle2) ∷ [] in
+    Along (inside (sceneOf given) d on stores room base blocks (most - blocks - 1) start end angles written out) on s end
+    messages₀ (held baselines records₀ present₀ rest) (soFar on body₀ size₀ s kept₀ at₀) at₀ messages (held baselines records present rest) body at size kept
     × (at₀ ≤ at)
 
 abbrev μ-loop3 : tie.MeasureT-loop3
-μ-loop3 d from most given on room out base baselines records₀ present₀ rest body₀ stores start blocks messages₀ written refusal h at₀ end s stop size₀ records present body messages at size =
+μ-loop3 d from most given on room out base baselines records₀ present₀ rest body₀ stores start blocks messages₀ written refusal h at₀ end s stop size₀ kept₀ records present body messages at size kept =
     length s - at
 
 -- The loop over blocks.
@@ -214,8 +220,8 @@ opened o =
     (bytes b) (omega (arith, within o)) (h .result .size) _ (o .before .before .before .before .if1 .left) (head-found (input b) (l .start) (h .result) (h .ensures .0) (o .before .before .if2 .left))
 
 -- The messages so far were read and written, from the block's first on.
-abbrev Reached : Opened → ℕ → Scene → List ℕ → ℕ → ℕ → Type 0
-Reached o = Along (from-here o) (body o) (end o) (blockOf o .before .loop .messages) (before (blockOf o)) [] (blockOf o .before .loop .start + 16)
+abbrev Reached : Opened → ℕ → Scene → List ℕ → ℕ → ℕ → ℕ → Type 0
+Reached o = Along (from-here o) (begun (blockOf o) .args .on) (body o) (end o) (blockOf o .before .loop .messages) (before (blockOf o)) [] (blockOf o .before .loop .start + 16)
 
 -- What is told of a refusal inside the block, and that an answer says so.
 abbrev refusedAt : Opened → ℕ → ℕ → Told
@@ -232,15 +238,15 @@ refuse : (o : Opened) (k place : ℕ)
     → (r : WrittenAt) → Refuses o k place r → Answered o r
 refuse o k place q r e = (λ i. record { told = e .0 i; written = e .1 i; room = blockOf o .before .loop .out }) ∙ q
 
-refuse-message : (o : Opened) (count : ℕ) (t : Scene) (filled : List ℕ) (at size : ℕ) → Reached o count t filled at size → at < length (body o) → (k : ℕ)
+refuse-message : (o : Opened) (count : ℕ) (t : Scene) (filled : List ℕ) (at size kept : ℕ) → Reached o count t filled at size kept → at < length (body o) → (k : ℕ)
     → readMessage t (drop at (body o)) ≡ refused k (drop at (body o)) → (r : WrittenAt) → Refuses o k at r → Answered o r
-refuse-message o count t filled at size i l k q =
+refuse-message o count t filled at size kept i l k q =
     let a = begun (blockOf o) .args in
     let b = blockOf o .before .loop in
     refuse o k at
     (sym (opened o ∙ i .4
     ∙ on-refused (sceneOf (a .given)) (input (blockOf o)) (a .on) (stores (blockOf o)) (a .room) (a .base) (b .blocks) _ (b .start) (end o) (angles o) (b .written) (b .out) (bytes (blockOf o)) (within o)
-    count t (take size filled) at k l q))
+    count t (soFar (a .on) filled size (body o) kept at) at k l q))
 
 -- ---- a place where a message is to be read
 
@@ -253,7 +259,8 @@ pub record Place (o : Opened) : Type 0 where
   count : ℕ
   at : ℕ
   size : ℕ
-  reached : Reached o count (held baselines records present rest) filled at size
+  kept : ℕ
+  reached : Reached o count (held baselines records present rest) filled at size kept
   inside : at < length (body o)
   going : rest .ended ≡ false
 
@@ -264,11 +271,11 @@ scene p = held (p .baselines) (p .records) (p .present) (p .rest)
 abbrev Parsed : {o : Opened} → Place o → List Value → Cursor → Type 0
 Parsed {o} p vs k = gotten (body o) vs k ≡ parseAt (body o) (here (p .at)) (layoutIn (scene p))
 
--- A message was read, and its normal form put behind those before it.
-pub record Step {o : Opened} (p : Place o) (t : Scene) (to : ℕ) (filled : List ℕ) (size : ℕ) : Type 0 where
+-- A message was read, and its normal form is written behind those before it.
+pub record Step {o : Opened} (p : Place o) (t : Scene) (to : ℕ) (filled : List ℕ) (size kept : ℕ) : Type 0 where
   form : List ℕ
   moved : Moved (body o) (scene p) (p .at) t to form
-  put : Put (p .filled) filled (p .size) size (cond (begun (blockOf o) .args .on) form [])
+  grown : Grown (begun (blockOf o) .args .on) (body o) (p .filled) filled (p .size) (p .kept) (p .at) size kept to form
 
 module _ {o : Opened} (p : Place o) where
   counts : Fits w64 (p .count + 1)
@@ -277,42 +284,66 @@ module _ {o : Opened} (p : Place o) where
   place-fits : Fits w64 (p .at + 1)
   place-fits = omega (arith, p .inside, within o, body-long o)
 
-  room-for : (n : ℕ) → n ≤ 64 → p .size + n ≤ length (p .filled)
-  room-for n l = omega (arith, p .reached .1, p .reached .2, l)
+  -- Room for what is kept and a message of so many bytes.
+  room-for : (n : ℕ) → n ≤ 64 → (p .kept ≤ p .at) × (p .at ≤ length (body o)) × (p .size + (p .at - p .kept) + n ≤ length (p .filled))
+  room-for n l = (p .reached .5, omega (arith, p .inside), omega (arith, p .reached .1, p .reached .2, p .inside, l))
 
   module _ (vs : List Value) (k : Cursor) (q : Parsed p vs k) where
     refuse-parsed : (k .refusal ≡ 0 → ⊥) → (r : WrittenAt) → Refuses o (k .refusal) (p .at) r → Answered o r
     refuse-parsed z =
-        refuse-message o (p .count) (scene p) (p .filled) (p .at) (p .size) (p .reached) (p .inside) (k .refusal)
+        refuse-message o (p .count) (scene p) (p .filled) (p .at) (p .size) (p .kept) (p .reached) (p .inside) (k .refusal)
         (parsed-refused (body o) (p .at) (p .inside) (p .baselines) (p .records) (p .present) (p .rest) (p .going) vs k q z)
-
-    -- It takes a byte or more, and its bytes as they were read fit into the scratch.
-    copy-fits : k .refusal ≡ 0 → (p .at ≤ k .at) × (p .size + length (take (k .at - p .at) (drop (p .at) (body o))) ≤ length (p .filled))
-    copy-fits z =
-        let l = parsed-less (body o) (p .at) (p .inside) (p .baselines) (p .records) (p .present) (p .rest) (p .going) vs k q (body-bytes o) z in
-        (omega (arith, l), omega (arith, l, p .reached .1, p .reached .2, length-take (k .at - p .at) (drop (p .at) (body o)), length-drop (p .at) (body o)))
 
   -- A message of kind n.
   kind-here : (n : ℕ) (x : Context) (vs : List Value) (k : Cursor) → n ≡ getD (body o) (p .at) 0
       → isMessage n ≡ true → n ≢ Kind.static → x ≡ contextOf (scene p) → gotten (body o) vs k ≡ kindAt (body o) (here (p .at + 1)) x n → Parsed p vs k
   kind-here = kind-parsed (body o) (p .at) (p .inside) (p .baselines) (p .records) (p .present) (p .rest) (p .going)
 
-  module _ (t : Scene) (to : ℕ) (filled : List ℕ) (size : ℕ) (s : Step p t to filled size) where
+  -- It stays as it was read, or is put anew behind what is kept.
+  module _ (t : Scene) (to : ℕ) (form : List ℕ) (m : Moved (body o) (scene p) (p .at) t to form) where
+    less : length (body o) - to < length (body o) - p .at
+    less = moved-less (body o) (body-bytes o) (scene p) (p .at) t to form m
+
+    kept-step : form ≡ take (to - p .at) (drop (p .at) (body o)) → Step p t to (p .filled) (p .size) (p .kept)
+    kept-step e =
+        let on = begun (blockOf o) .args .on in
+        record {
+          form = form;
+          moved = m;
+          grown = grown-kept on (body o) (p .filled) (p .size) (p .kept) (p .at) to form (p .reached .5) (omega (arith, less)) (omega (arith, p .inside))
+              (moved-short (body o) (body-bytes o) (scene p) (p .at) t to form m on) (λ q. e);
+        }
+
+    behind-step : (anew : Bool) → (anew ≡ true → begun (blockOf o) .args .on ≡ true)
+        → (begun (blockOf o) .args .on ≡ true → anew ≡ false → form ≡ take (to - p .at) (drop (p .at) (body o))) → (filled : List ℕ) (size kept : ℕ)
+        → Behind anew (p .filled) filled (p .size) (p .kept) size kept to (take (p .at - p .kept) (drop (p .kept) (body o)) ++ form) → Step p t to filled size kept
+    behind-step anew w e filled size kept b =
+        let on = begun (blockOf o) .args .on in
+        record {
+          form = form;
+          moved = m;
+          grown = grown-behind on (body o) (p .filled) (p .size) (p .kept) (p .at) to form (p .reached .5) (omega (arith, less)) (omega (arith, p .inside))
+              (moved-short (body o) (body-bytes o) (scene p) (p .at) t to form m on) anew w e filled size kept b;
+        }
+
+  module _ (t : Scene) (to : ℕ) (filled : List ℕ) (size kept : ℕ) (s : Step p t to filled size kept) where
     step-less : length (body o) - to < length (body o) - p .at
-    step-less = moved-less (body o) (body-bytes o) (scene p) (p .at) t to (s .form) (s .moved)
+    step-less = less t to (s .form) (s .moved)
 
     -- One message on.
-    step-on : Along (from-here o) (body o) (end o) (p .count) (scene p) (take (p .size) (p .filled)) (p .at) (p .count + 1) t filled to size
+    step-on : Along (from-here o) (begun (blockOf o) .args .on) (body o) (end o) (p .count) (scene p) (soFar (begun (blockOf o) .args .on) (p .filled) (p .size) (body o) (p .kept) (p .at)) (p .at) (p .count + 1) t filled to size kept
     step-on =
         let a = begun (blockOf o) .args in
-        let l = blockOf o .before .loop in (
+        let l = blockOf o .before .loop in
+        let g = s .grown in (
           omega (arith, p .reached .0, step-less),
-          omega (arith, p .reached .1, s .put .2, moved-short (body o) (body-bytes o) (scene p) (p .at) t to (s .form) (s .moved) (a .on)),
-          s .put .1 ∙ p .reached .2,
+          omega (arith, p .reached .1, g .spare),
+          g .long ∙ p .reached .2,
           moved-range (body o) (body-bytes o) (scene p) (p .at) t to (s .form) (s .moved) (p .reached .3),
           on-moved (sceneOf (a .given)) (input (blockOf o)) (a .on) (stores (blockOf o)) (a .room) (a .base) (l .blocks) _ (l .start) (end o) (angles o) (l .written) (l .out) (bytes (blockOf o)) (within o)
-              (p .count) (scene p) (take (p .size) (p .filled)) (p .at) t to (s .form) (p .inside) (s .moved)
-              ∙ ap (λ (x : List ℕ). from-here o (p .count + 1) t x (readAll messages t (drop to (body o)))) (sym (s .put .0)),
+              (p .count) (scene p) (soFar (a .on) (p .filled) (p .size) (body o) (p .kept) (p .at)) (p .at) t to (s .form) (p .inside) (s .moved)
+              ∙ ap (λ (x : List ℕ). from-here o (p .count + 1) t x (readAll messages t (drop to (body o)))) (sym (g .far)),
+          g .inside,
         )
 
 -- ---- the loop over updates
@@ -321,10 +352,10 @@ abbrev AtRun : Type 0
 AtRun = tie.At-loop3 Inv-loop3 μ-loop3 Inv-loop2 μ-loop2 Inv-loop μ-loop
 
 reached : (c : AtRun)
-    → Reached (c .before .before .before .before .before) (c .loop3 .messages) (held (c .before .before .before .loop2 .baselines) (c .loop3 .records) (c .loop3 .present) (c .before .before .before .loop2 .rest)) (c .loop3 .body) (c .loop3 .at) (c .loop3 .size)
+    → Reached (c .before .before .before .before .before) (c .loop3 .messages) (held (c .before .before .before .loop2 .baselines) (c .loop3 .records) (c .loop3 .present) (c .before .before .before .loop2 .rest)) (c .loop3 .body) (c .loop3 .at) (c .loop3 .size) (c .loop3 .kept)
 reached c =
     let i = c .loop3 .inv .0 in
-    (i .0, i .1, i .2, i .3, c .before .before .before .loop2 .inv .4 ∙ i .4)
+    (i .0, i .1, i .2, i .3, c .before .before .before .loop2 .inv .4 ∙ i .4, i .5)
 
 abbrev placeAt : (c : AtRun) → c .loop3 .at < length (body (c .before .before .before .before .before)) → Place (c .before .before .before .before .before)
 placeAt c l =
@@ -337,6 +368,7 @@ placeAt c l =
       count = c .loop3 .messages;
       at = c .loop3 .at;
       size = c .loop3 .size;
+      kept = c .loop3 .kept;
       reached = reached c;
       inside = l;
       going = c .before .if3 .left;
@@ -396,6 +428,7 @@ quick-here c =
     let h = c .before .before .before .before .before .before .update-head in
     let f = c .before .before .update-fields in
     quick-update (input (blockOf o)) (end o) (p .at + 1) (kind (updateOf c)) (getD (p .baselines) (entity c) noBaseline) (within o) (small c) (h .result) (f .result) (h .ensures .0) (f .ensures .0) (f .ensures .1 .0) (c .before .before .before .before .if6 .left) (c .before .before .before .before .before .if5 .left) (c .before .if7 .left)
+    (f .ensures .1 .1) (c .before .before .before .before .before .before .before .if4 .left) (λ i. c .before .before .before .before .before .before .before .before .shared-slice-known2 .given i .fits)
 
 abbrev formAt : Found → List ℕ
 formAt c =
@@ -414,33 +447,26 @@ moves c =
     let o = ran (updateOf c) in
     omega (arith, moved-less (body o) (body-bytes o) (scene (update (updateOf c))) (updateOf c .before .loop3 .at) (updated c) (to c) (formAt c) (at-once c))
 
--- The update's bytes are the same in the input and in the block.
-front-here : (c : Found)
-    → let o = ran (updateOf c) in
-    let at = updateOf c .before .loop3 .at in
-    take (to c - at) (drop at (input (blockOf o))) ≡ take (to c - at) (drop at (body o))
-front-here c =
-    let o = ran (updateOf c) in
-    let at = updateOf c .before .loop3 .at in
-    front-kept (to c - at) at (end o) (input (blockOf o)) (omega (arith, moves c, c .before .if7 .left))
-
-step-once : (c : tie.After-put-read-update Inv-loop3 μ-loop3 Inv-loop2 μ-loop2 Inv-loop μ-loop)
-    → let r = c .before .before in
+step-once : (c : tie.After-put-update-behind Inv-loop3 μ-loop3 Inv-loop2 μ-loop2 Inv-loop μ-loop)
+    → let r = c .before .before .before .before in
     let p = update (updateOf r) in
-    (filled : List ℕ) → ((x : Context) → Put (p .filled) filled (p .size) (c .put-read-update .result) (cond (begun (blockOf (ran (updateOf r))) .args .on) (readOrAnew x (baselineNumbers (getD (p .baselines) (entity r) noBaseline)) (number (entity r) ∷ recordValues (r .before .before .update-fields .result .record)) (r .before .before .before .before .before .before .update-head .result .mask) (to r - p .at) (drop (p .at) (input (blockOf (ran (updateOf r)))))) []))
-    → Step p (updated r) (to r) filled (c .put-read-update .result)
+    let q = c .put-update-behind .result in
+    let on = begun (blockOf (ran (updateOf r))) .args .on in
+    (filled : List ℕ) → ((x : Context) → Behind (on && (r .before .before .update-fields .result .needless || c .before .before .before .needless-head .result)) (p .filled) filled (p .size) (p .kept) (q .size) (q .kept) (to r) (take (p .at - p .kept) (drop (p .kept) (body (ran (updateOf r)))) ++ print (layout x) (sendUpdate (baselineNumbers (getD (p .baselines) (entity r) noBaseline)) (number (entity r) ∷ recordValues (r .before .before .update-fields .result .record)))))
+    → Step p (updated r) (to r) filled (q .size) (q .kept)
 step-once c filled w =
-    let r = c .before .before in
+    let r = c .before .before .before .before in
     let p = update (updateOf r) in
     let o = ran (updateOf r) in
     let q = quick-here r in
-    let same = kept-form (body o) (p .at) (p .inside) (p .baselines) (p .records) (p .present) (p .rest) (p .going) (kind (updateOf r)) (kind-there (updateOf r)) (r .before .before .before .before .before .before .before .if4 .left)
-    (q .high) (entity r) (q .sent) (to r) (r .before .before .update-fields .result .record) (q .parsed) (q .filled) (body-bytes o) (small r) (r .before .before .before .before .before .before .update-head .result .mask) (to r - p .at) (drop (p .at) (input (blockOf o))) (q .masked) (front-here r) in
-    record {
-      form = formAt r;
-      moved = at-once r;
-      put = subst (λ (bs : List ℕ). Put (p .filled) filled (p .size) (c .put-read-update .result) (cond (begun (blockOf o) .args .on) bs [])) same (w (contextOf (scene p)));
-    }
+    let f = r .before .before .update-fields .result in
+    let h = c .before .before .before .needless-head in
+    behind-step p (updated r) (to r) (formAt r) (at-once r) _ (λ e. and-true _ _ e .0)
+    (λ on e.
+    let n = or-false (f .needless) (h .result) (and-false _ _ on e) in
+    kept-form (body o) (p .at) (p .inside) (p .baselines) (p .records) (p .present) (p .rest) (p .going) (kind (updateOf r)) (kind-there (updateOf r)) (r .before .before .before .before .before .before .before .if4 .left)
+    (q .high) (entity r) (q .sent) (to r) (f .record) (q .parsed) (q .filled) (body-bytes o) (q .kept (n .0) (sym (h .ensures) ∙ n .1)))
+    filled _ _ (w (contextOf (scene p)))
 
 -- ---- where another message is to be read
 
@@ -463,11 +489,18 @@ client-here : (c : tie.After-client-at Inv-loop3 μ-loop3 Inv-loop2 μ-loop2 Inv
     ClientRead (body (inBlock (c .before .before .before))) (p .at + 1) (contextOf (scene p)) (c .client-at .result .client) (c .client-at .result .cursor)
 client-here c =
     let p = message (c .before .before .before) in
-    client-read (body (inBlock (c .before .before .before))) (p .at + 1) (contextOf (scene p)) (c .client-at .result .client) (c .client-at .result .cursor) (c .client-at .ensures (contextOf (scene p)))
+    client-read (body (inBlock (c .before .before .before))) (p .at + 1) (contextOf (scene p)) (c .client-at .result .client) (c .client-at .result .cursor) (c .client-at .ensures .0 (contextOf (scene p)))
 
 client-parsed : (c : tie.After-client-at Inv-loop3 μ-loop3 Inv-loop2 μ-loop2 Inv-loop μ-loop) → Parsed (message (c .before .before .before)) (number 15 ∷ client-here c .sent) (c .client-at .result .cursor)
 client-parsed c =
     kind-here (message (c .before .before .before)) 15 (contextOf (scene (message (c .before .before .before)))) _ (c .client-at .result .cursor) (sym (c .before .match .keys2)) refl (λ z. omega arith) refl (client-here c .read)
+
+-- Where nothing was sent needlessly, it is its own normal form.
+client-again : (c : tie.After-client-at Inv-loop3 μ-loop3 Inv-loop2 μ-loop2 Inv-loop μ-loop) → c .client-at .result .needless ≡ false
+    → Parsed (message (c .before .before .before)) (sendClient (clientValues (c .client-at .result .client))) (c .client-at .result .cursor)
+client-again c e =
+    let x = contextOf (scene (message (c .before .before .before))) in
+    kind-here (message (c .before .before .before)) 15 x _ (c .client-at .result .cursor) (sym (c .before .match .keys2)) refl (λ z. omega arith) refl (c .client-at .ensures .1 x e)
 
 other-read : (c : tie.After-read-message Inv-loop3 μ-loop3 Inv-loop2 μ-loop2 Inv-loop μ-loop) → Parsed (message (c .before .before .before .before .before)) (valuesOf (body (inBlock (c .before .before .before .before .before))) (c .read-message .result .message)) (c .read-message .result .cursor)
 other-read c =
@@ -509,22 +542,22 @@ AtNext = tie.At-match-came Inv-loop3 μ-loop3 Inv-loop2 μ-loop2 Inv-loop μ-loo
 abbrev next : AtNext → Scene
 next c = held (c .match .baselines) (c .match .records) (c .match .present) (c .match .rest)
 
-abbrev Arrived : AtNext → Scene → ℕ → List ℕ → ℕ → Type 0
+abbrev Arrived : AtNext → Scene → ℕ → List ℕ → ℕ → ℕ → Type 0
 Arrived c = Step (message (c .before .before))
 
-arrived : (c : AtNext) (b : List Baseline) (e : List Record) (p : List Bool) (x : Rest) (filled : List ℕ) (to size : ℕ) → c .match .baselines ≡ b → c .match .records ≡ e
-    → c .match .present ≡ p → c .match .rest ≡ x → c .match .body ≡ filled → c .match .at ≡ to → c .match .size ≡ size
-    → Arrived c (held b e p x) to filled size → Arrived c (next c) (c .match .at) (c .match .body) (c .match .size)
-arrived c b e p x filled to size eb ee ep ex ef et es m =
-    let q : _≡_ {A = Scene × ℕ × List ℕ × ℕ} (next c, c .match .at, c .match .body, c .match .size) (held b e p x, to, filled, size) = λ i. (held (eb i) (ee i) (ep i) (ex i), et i, ef i, es i) in
-    subst (λ (y : Scene × ℕ × List ℕ × ℕ). Arrived c (y .0) (y .1) (y .2) (y .3)) (sym q) m
+arrived : (c : AtNext) (b : List Baseline) (e : List Record) (p : List Bool) (x : Rest) (filled : List ℕ) (to size kept : ℕ) → c .match .baselines ≡ b → c .match .records ≡ e
+    → c .match .present ≡ p → c .match .rest ≡ x → c .match .body ≡ filled → c .match .at ≡ to → c .match .size ≡ size → c .match .kept ≡ kept
+    → Arrived c (held b e p x) to filled size kept → Arrived c (next c) (c .match .at) (c .match .body) (c .match .size) (c .match .kept)
+arrived c b e p x filled to size kept eb ee ep ex ef et es ek m =
+    let q : _≡_ {A = Scene × ℕ × List ℕ × ℕ × ℕ} (next c, c .match .at, c .match .body, c .match .size, c .match .kept) (held b e p x, to, filled, size, kept) = λ i. (held (eb i) (ee i) (ep i) (ex i), et i, ef i, es i, ek i) in
+    subst (λ (y : Scene × ℕ × List ℕ × ℕ × ℕ). Arrived c (y .0) (y .1) (y .2) (y .3) (y .4)) (sym q) m
 
 -- The messages but serverinfo and baseline, by their places in the list of messages.
 abbrev neither : List ℕ
 neither =
     0 ∷ 1 ∷ 2 ∷ 3 ∷ 4 ∷ 5 ∷ 6 ∷ 7 ∷ 8 ∷ 9 ∷ 11 ∷ 12 ∷ 13 ∷ 14 ∷ 15 ∷ 16 ∷ 17 ∷ 18 ∷ 19 ∷ 21 ∷ 22 ∷ 23 ∷ 24 ∷ 25 ∷ 26 ∷ 27 ∷ 28 ∷ 29 ∷ 30 ∷ 31 ∷ 32 ∷ 33 ∷ []
 
-came : (c : AtNext) → Arrived c (next c) (c .match .at) (c .match .body) (c .match .size)
+came : (c : AtNext) → Arrived c (next c) (c .match .at) (c .match .body) (c .match .size) (c .match .kept)
 came c =
     let s = body (inBlock (c .before .before)) in
     let k = message (c .before .before) in
@@ -533,80 +566,87 @@ came c =
     let h = body-bytes (inBlock (c .before .before)) in
     let x = contextOf (scene k) in
     ⊎-elim
-    (λ w. arrived c (k .baselines) (k .records) (replicate 449 false) (timed (k .rest) (w .2 .result .value)) _ (w .2 .result .cursor .at) (w .6 .result) (w .8) (w .9) (w .10) (w .11) (w .12) (w .13) (w .14)
-    (record {
-      form = _;
-      moved = time-moved s (k .at) l (k .baselines) (k .records) (k .present) (k .rest) g h (w .2 .result .value) (w .2 .result .cursor)
-          (time-parsed (record { before = record { before = record { before = c .before; match = w .0 }; context = w .1 }; time-at = w .2 })) (w .4 .left);
-      put = w .6 .ensures;
-    }))
+    (λ w. arrived c (k .baselines) (k .records) (replicate 449 false) (timed (k .rest) (w .2 .result .value)) (k .filled) (w .2 .result .cursor .at) (k .size) (k .kept) (w .5) (w .6) (w .7) (w .8) (w .9) (w .10) (w .11) (w .12)
+    (kept-step k _ (w .2 .result .cursor .at) _
+    (time-moved s (k .at) l (k .baselines) (k .records) (k .present) (k .rest) g h (w .2 .result .value) (w .2 .result .cursor)
+    (time-parsed (record { before = record { before = record { before = c .before; match = w .0 }; context = w .1 }; time-at = w .2 })) (w .4 .left)) refl))
     (⊎-elim
-    (λ w. arrived c (k .baselines) (k .records) (k .present) (w .8 .result) _ (w .1 .result .cursor .at) (w .6 .result) (w .9) (w .10) (w .11) (w .12) (w .13) (w .14) (w .15)
-    (record {
-      form = _;
-      moved = client-moved s (k .at) l (k .baselines) (k .records) (k .present) (k .rest) g _ (w .1 .result .client) (w .8 .result) (w .1 .result .cursor)
-          (client-parsed (record { before = record { before = c .before; match = w .0 }; client-at = w .1 })) (w .3 .left)
-          (client-here (record { before = record { before = c .before; match = w .0 }; client-at = w .1 }) .filled (w .3 .left)) (w .8 .ensures);
-      put = w .6 .ensures x;
-    }))
+    (λ w.
+    let r : tie.After-client-at Inv-loop3 μ-loop3 Inv-loop2 μ-loop2 Inv-loop μ-loop = record { before = record { before = c .before; match = w .0 }; client-at = w .1 } in
+    arrived c (k .baselines) (k .records) (k .present) (w .9 .result) _ (w .1 .result .cursor .at) (w .7 .result .size) (w .7 .result .kept) (w .10) (w .11) (w .12) (w .13) (w .14) (w .15) (w .16) (w .17)
+    (behind-step k _ (w .1 .result .cursor .at) _
+    (client-moved s (k .at) l (k .baselines) (k .records) (k .present) (k .rest) g _ (w .1 .result .client) (w .9 .result) (w .1 .result .cursor) (client-parsed r) (w .3 .left) (client-here r .filled (w .3 .left)) (w .9 .ensures))
+    _ (λ e. and-true _ _ e .0) (λ on e. kept-client s (k .at) l (k .baselines) (k .records) (k .present) (k .rest) g h (w .1 .result .client) (w .1 .result .cursor) (client-again r (and-false _ _ on e)) (w .3 .left)) _ _ _ (w .7 .ensures x)))
     (⊎-elim
-    (λ w. arrived c (set (k .baselines) (w .10 .given .0 .0 .0) (record { look = w .10 .given .0 .1 .0; pose = w .10 .given .0 .1 .1 .0 })) (k .records) (k .present) (k .rest) _ (w .3 .result .cursor .at) (w .7 .result) (w .13) (w .14) (w .15) (w .16) (w .17) (w .18) (w .19)
-    (record {
-      form = _;
-      moved = baseline-moved s (k .at) l (k .baselines) (k .records) (k .present) (k .rest) g h _ (w .2 .ensures _ _ _) (w .3 .result .message) (w .3 .result .cursor)
-          (w .3 .ensures) (w .5 .left) (λ z. w .0 .rest .1 (sym z)) (w .1 .taken) _ _ _ (w .10 .given .1);
-      put = w .7 .ensures x;
-    }))
+    (λ w. arrived c (set (k .baselines) (w .10 .given .0 .0 .0) (record { look = w .10 .given .0 .1 .0; pose = w .10 .given .0 .1 .1 .0 })) (k .records) (k .present) (k .rest) _ (w .3 .result .cursor .at) (w .7 .result .size) (w .7 .result .kept) (w .13) (w .14) (w .15) (w .16) (w .17) (w .18) (w .19) (w .20)
+    (behind-step k _ (w .3 .result .cursor .at) _ (baseline-moved s (k .at) l (k .baselines) (k .records) (k .present) (k .rest) g h _ (w .2 .ensures _ _ _) (w .3 .result .message) (w .3 .result .cursor)
+    (w .3 .ensures) (w .5 .left) (λ z. w .0 .rest .1 (sym z)) (w .1 .taken) _ _ _ (w .10 .given .1))
+    _ (λ e. and-true _ _ e .0) (λ on e. kept-other x s (k .at) (w .3 .result .cursor .at) (w .3 .result .message) (and-false _ _ on e)) _ _ _ (w .7 .ensures x)))
     (⊎-elim
-    (λ w. arrived c (w .12 .result .baselines) (w .12 .result .records) (w .12 .result .present) (w .12 .result .rest) _ (w .3 .result .cursor .at) (w .7 .result) (w .17) (w .18) (w .19) (w .20) (w .21) (w .22) (w .23)
-    (record {
-      form = _;
-      moved = serverinfo-moved s (k .at) l (k .baselines) (k .records) (k .present) (k .rest) g h _ (w .2 .ensures _ _ _) (w .3 .result .message) (w .3 .result .cursor)
-          (w .3 .ensures) (w .5 .left) (λ z. w .0 .rest .1 (sym z)) (w .1 .taken) _ _ (w .10 .given .1) (w .12 .ensures);
-      put = w .7 .ensures x;
-    }))
+    (λ w. arrived c (w .12 .result .baselines) (w .12 .result .records) (w .12 .result .present) (w .12 .result .rest) _ (w .3 .result .cursor .at) (w .7 .result .size) (w .7 .result .kept) (w .17) (w .18) (w .19) (w .20) (w .21) (w .22) (w .23) (w .24)
+    (behind-step k _ (w .3 .result .cursor .at) _ (serverinfo-moved s (k .at) l (k .baselines) (k .records) (k .present) (k .rest) g h _ (w .2 .ensures _ _ _) (w .3 .result .message) (w .3 .result .cursor)
+    (w .3 .ensures) (w .5 .left) (λ z. w .0 .rest .1 (sym z)) (w .1 .taken) _ _ (w .10 .given .1) (w .12 .ensures))
+    _ (λ e. and-true _ _ e .0) (λ on e. kept-other x s (k .at) (w .3 .result .cursor .at) (w .3 .result .message) (and-false _ _ on e)) _ _ _ (w .7 .ensures x)))
     (⊎-elim
-    (λ w. arrived c (k .baselines) (k .records) (k .present) (w .10 .result) _ (w .3 .result .cursor .at) (w .7 .result) (w .11) (w .12) (w .13) (w .14) (w .15) (w .16) (w .17)
-    (record {
-      form = _;
-      moved = rest-moved s (k .at) l (k .baselines) (k .records) (k .present) (k .rest) g h _ (w .2 .ensures _ _ _) (w .3 .result .message) (w .3 .result .cursor)
-          (w .3 .ensures) (w .5 .left) (λ z. w .0 .rest .1 (sym z)) (w .1 .taken) neither (w .9 .keys3) tt tt (λ z. w .0 .rest .0 .1 (sym z)) (w .10 .result) (w .10 .ensures);
-      put = w .7 .ensures x;
-    }))
-    (λ w. arrived c (k .baselines) (set (k .records) (w .2 .result .update .entity .0) (w .9 .result)) (set (k .present) (w .2 .result .update .entity .0) true) (k .rest) _ (w .2 .result .cursor .at) (w .11 .result) (w .13) (w .14) (w .15) (w .16) (w .17) (w .18) (w .19)
-    (record {
-      form = _;
-      moved = update-moved s (k .at) l (k .baselines) (k .records) (k .present) (k .rest) g h _ refl (w .1 .left) (w .2 .result .update) (w .2 .result .cursor)
-          (w .2 .ensures) (w .4 .left) (w .9 .result) (w .9 .ensures);
-      put = w .11 .ensures x;
-    }))))))
+    (λ w. arrived c (k .baselines) (k .records) (k .present) (w .10 .result) _ (w .3 .result .cursor .at) (w .7 .result .size) (w .7 .result .kept) (w .11) (w .12) (w .13) (w .14) (w .15) (w .16) (w .17) (w .18)
+    (behind-step k _ (w .3 .result .cursor .at) _ (rest-moved s (k .at) l (k .baselines) (k .records) (k .present) (k .rest) g h _ (w .2 .ensures _ _ _) (w .3 .result .message) (w .3 .result .cursor)
+    (w .3 .ensures) (w .5 .left) (λ z. w .0 .rest .1 (sym z)) (w .1 .taken) neither (w .9 .keys3) tt tt (λ z. w .0 .rest .0 .1 (sym z)) (w .10 .result) (w .10 .ensures))
+    _ (λ e. and-true _ _ e .0) (λ on e. kept-other x s (k .at) (w .3 .result .cursor .at) (w .3 .result .message) (and-false _ _ on e)) _ _ _ (w .7 .ensures x)))
+    (λ w. arrived c (k .baselines) (set (k .records) (w .2 .result .update .entity .0) (w .9 .result)) (set (k .present) (w .2 .result .update .entity .0) true) (k .rest) _ (w .2 .result .cursor .at) (w .11 .result .size) (w .11 .result .kept) (w .13) (w .14) (w .15) (w .16) (w .17) (w .18) (w .19) (w .20)
+    (behind-step k _ (w .2 .result .cursor .at) _
+    (update-moved s (k .at) l (k .baselines) (k .records) (k .present) (k .rest) g h _ refl (w .1 .left) (w .2 .result .update) (w .2 .result .cursor) (w .2 .ensures) (w .4 .left) (w .9 .result) (w .9 .ensures))
+    _ (λ e. e) (λ on e. let z : true ≡ false = sym on ∙ e in clash (cc)) _ _ _ (w .11 .ensures x)))))))
     (c .match .came)
 
 -- ---- where a block is at its end
 
+-- Input that was kept to the end is copied.
+abbrev Copied : Type 0
+Copied = tie.After-put-copy Inv-loop3 μ-loop3 Inv-loop2 μ-loop2 Inv-loop μ-loop
+
+abbrev left : Copied → tie.At-loop2 Inv-loop3 μ-loop3 Inv-loop2 μ-loop2 Inv-loop μ-loop
+left c = c .before .before .before
+
+abbrev sizeOf : Copied → ℕ
+sizeOf c = c .put-copy .result
+
+abbrev filledOf : Copied → List ℕ
+filledOf c = c .put-copy .last .1 .0
+
+fits : (c : Copied) → (sizeOf c ≤ 8000) × (length (filledOf c) ≡ 8064)
+fits c =
+    let k = left c .loop2 in
+    let s = body (left c .before .before) in
+    (room (begun (blockOf (left c .before .before)) .args .on) (c .put-copy .ensures .2), c .put-copy .ensures .1 ∙ k .inv .2)
+  where
+    room : (on : Bool) → sizeOf c ≡ left c .loop2 .size + length (cond on (take (left c .loop2 .at - left c .loop2 .kept) (drop (left c .loop2 .kept) (body (left c .before .before)))) []) → sizeOf c ≤ 8000
+    room true e = omega (arith, e, left c .loop2 .inv .1, length-take (left c .loop2 .at - left c .loop2 .kept) (drop (left c .loop2 .kept) (body (left c .before .before))), length-drop (left c .loop2 .kept) (body (left c .before .before)))
+    room false e = omega (arith, e, left c .loop2 .inv .1)
+
+body-size : (c : Copied) → length (take (sizeOf c) (filledOf c)) ≡ sizeOf c
+body-size c = length-take-le (sizeOf c) (filledOf c) (omega (arith, fits c))
+
 abbrev AtEnd : Type 0
 AtEnd = tie.After-block-size Inv-loop3 μ-loop3 Inv-loop2 μ-loop2 Inv-loop μ-loop
 
+abbrev copying : AtEnd → Copied
+copying c = c .before .before
+
 abbrev closing : AtEnd → Opened
-closing c = c .before .before .before .before
+closing c = left (copying c) .before .before
 
 abbrev after : AtEnd → Scene
-after c = let k = c .before .before .loop2 in held (k .baselines) (k .records) (k .present) (k .rest)
+after c = let k = left (copying c) .loop2 in held (k .baselines) (k .records) (k .present) (k .rest)
 
 abbrev formed : AtEnd → List ℕ
-formed c = blockBytes (begun (blockOf (closing c)) .args .on) (angles (closing c)) (take (c .before .before .loop2 .size) (c .before .before .loop2 .body))
-
-body-size : (c : AtEnd) → length (take (c .before .before .loop2 .size) (c .before .before .loop2 .body)) ≡ c .before .before .loop2 .size
-body-size c =
-    let k = c .before .before .loop2 in
-    length-take-le (k .size) (k .body) (omega (arith, k .inv .1, k .inv .2))
+formed c = blockBytes (begun (blockOf (closing c)) .args .on) (angles (closing c)) (take (sizeOf (copying c)) (filledOf (copying c)))
 
 formed-size : (c : AtEnd) → length (formed c) ≡ c .block-size .result
 formed-size c =
     let h = closing c .before .before .before .read-head .result in
     let on = begun (blockOf (closing c)) .args .on in
-    block-length on (h .angle0) (h .angle1) (h .angle2) (take (c .before .before .loop2 .size) (c .before .before .loop2 .body))
-    ∙ ap (λ (n : ℕ). cond on (16 + n) 0) (body-size c) ∙ sym (c .block-size .ensures)
+    block-length on (h .angle0) (h .angle1) (h .angle2) (take (sizeOf (copying c)) (filledOf (copying c)))
+    ∙ ap (λ (n : ℕ). cond on (16 + n) 0) (body-size (copying c)) ∙ sym (c .block-size .ensures)
 
 ended : (c : AtEnd)
     → let o = closing c in
@@ -614,15 +654,16 @@ ended : (c : AtEnd)
     let l = blockOf o .before .loop in
     whole (blockOf o)
     ≡ closed (sceneOf (a .given)) (input (blockOf o)) (a .on) (stores (blockOf o)) (a .room) (a .base) (l .blocks) (a .most - l .blocks - 1) (l .start) (end o) (angles o) (l .written) (l .out)
-    (c .before .before .loop2 .messages) (after c) (formed c)
+    (left (copying c) .loop2 .messages) (after c) (formed c)
 ended c =
     let o = closing c in
     let a = begun (blockOf o) .args in
     let l = blockOf o .before .loop in
-    let k = c .before .before .loop2 in
+    let k = left (copying c) .loop2 in
     opened o ∙ k .inv .4
     ∙ on-end (sceneOf (a .given)) (input (blockOf o)) (a .on) (stores (blockOf o)) (a .room) (a .base) (l .blocks) _ (l .start) (end o) (angles o) (l .written) (l .out) (bytes (blockOf o)) (within o)
-    (k .messages) (after c) (take (k .size) (k .body)) (k .at) (c .before .loop2-test .left)
+    (k .messages) (after c) (soFar (a .on) (k .body) (k .size) (body o) (k .kept) (k .at)) (k .at) (copying c .before .before .loop2-test .left)
+    ∙ ap (λ (x : List ℕ). closed (sceneOf (a .given)) (input (blockOf o)) (a .on) (stores (blockOf o)) (a .room) (a .base) (l .blocks) (a .most - l .blocks - 1) (l .start) (end o) (angles o) (l .written) (l .out) (k .messages) (after c) (blockBytes (a .on) (angles o) x)) (sym (copying c .put-copy .ensures .0))
 
 -- The room is short for it.
 short : (c : tie.Then14 Inv-loop3 μ-loop3 Inv-loop2 μ-loop2 Inv-loop μ-loop) (r : WrittenAt) → Refuses (closing (c .before)) 12 (c .before .block-size .result) r → Answered (closing (c .before)) r
@@ -634,7 +675,7 @@ short c =
     refuse o 12 (e .block-size .result)
     (sym (ended e
     ∙ closed-short (sceneOf (a .given)) (input (blockOf o)) (a .on) (stores (blockOf o)) (a .room) (a .base) (l .blocks) _ (l .start) (end o) (angles o) (l .written) (l .out)
-    (e .before .before .loop2 .messages) (after e) (formed e) (e .block-size .result) (formed-size e) (c .if14 .taken)))
+    (left (copying e) .loop2 .messages) (after e) (formed e) (e .block-size .result) (formed-size e) (c .if14 .taken)))
 
 -- There is room for it.
 goes-on : (c : tie.Else14 Inv-loop3 μ-loop3 Inv-loop2 μ-loop2 Inv-loop μ-loop)
@@ -644,7 +685,7 @@ goes-on : (c : tie.Else14 Inv-loop3 μ-loop3 Inv-loop2 μ-loop2 Inv-loop μ-loop
     let l = blockOf o .before .loop in
     let w = l .written + e .block-size .result in
     whole (blockOf o)
-    ≡ wroteOf (sceneOf (a .given)) (length (input (blockOf o))) (stores (blockOf o)) (a .base) (l .blocks + 1) (e .before .before .loop2 .messages) w (put (stores (blockOf o)) (l .out) (a .base + l .written) (formed e))
+    ≡ wroteOf (sceneOf (a .given)) (length (input (blockOf o))) (stores (blockOf o)) (a .base) (l .blocks + 1) (left (copying e) .loop2 .messages) w (put (stores (blockOf o)) (l .out) (a .base + l .written) (formed e))
     (runOf (a .on) (a .most - l .blocks - 1) (a .room - w) (after e) (drop (end o) (input (blockOf o))))
 goes-on c =
     let e = c .before in
@@ -653,18 +694,18 @@ goes-on c =
     let l = blockOf o .before .loop in
     ended e
     ∙ closed-fits (sceneOf (a .given)) (input (blockOf o)) (a .on) (stores (blockOf o)) (a .room) (a .base) (l .blocks) _ (l .start) (end o) (angles o) (l .written) (l .out)
-    (e .before .before .loop2 .messages) (after e) (formed e) (e .block-size .result) (formed-size e) (c .if14 .left)
+    (left (copying e) .loop2 .messages) (after e) (formed e) (e .block-size .result) (formed-size e) (c .if14 .left)
 
 room-there : (c : tie.Else14 Inv-loop3 μ-loop3 Inv-loop2 μ-loop2 Inv-loop μ-loop)
     → let a = begun (blockOf (closing (c .before))) .args in
     let l = blockOf (closing (c .before)) .before .loop in
-    (a .on && stored (a .out .now) (a .base) (a .room)) ≡ true → a .base + l .written + 16 + c .before .before .before .loop2 .size ≤ length (l .out)
+    (a .on && stored (a .out .now) (a .base) (a .room)) ≡ true → a .base + l .written + 16 + sizeOf (copying (c .before)) ≤ length (l .out)
 room-there c e =
     let s = begun (blockOf (closing (c .before))) in
     let a = s .args in
     let l = blockOf (closing (c .before)) .before .loop in
     let b = and-true (a .on) (stored (a .out .now) (a .base) (a .room)) e in
-    let n : c .before .block-size .result ≡ 16 + c .before .before .before .loop2 .size = c .before .block-size .ensures ∙ ap (λ (x : Bool). cond x (16 + c .before .before .before .loop2 .size) 0) (b .0) in
+    let n : c .before .block-size .result ≡ 16 + sizeOf (copying (c .before)) = c .before .block-size .ensures ∙ ap (λ (x : Bool). cond x (16 + sizeOf (copying (c .before))) 0) (b .0) in
     omega (arith, n, c .if14 .left, leb-true (a .room) (length (a .out .now) - a .base) (b .1), l .inv .5, l .inv .6, s .pre .2)
 
 -- What the room holds then.
@@ -679,8 +720,7 @@ Stored c x =
     let o = closing (ending c) in
     let a = begun (blockOf o) .args in
     let l = blockOf o .before .loop in
-    let k = ending c .before .before .loop2 in
-    x ≡ put (a .on && stores (blockOf o)) (l .out) (a .base + l .written) (leWrite 4 (k .size) ++ (print angleLayout (angles o) ++ take (k .size) (k .body)))
+    x ≡ put (a .on && stores (blockOf o)) (l .out) (a .base + l .written) (leWrite 4 (sizeOf (copying (ending c))) ++ (print angleLayout (angles o) ++ take (sizeOf (copying (ending c))) (filledOf (copying (ending c)))))
 
 stored-there : (c : AtStored) (x : List ℕ) → Stored c x
     → let o = closing (ending c) in
@@ -690,17 +730,15 @@ stored-there c x e =
     let o = closing (ending c) in
     let a = begun (blockOf o) .args in
     let l = blockOf o .before .loop in
-    let k = ending c .before .before .loop2 in
-    sym (e ∙ put-block-there (a .on) (stores (blockOf o)) (l .out) (a .base + l .written) (angles o) (take (k .size) (k .body)) (k .size) (body-size (ending c)))
+    sym (e ∙ put-block-there (a .on) (stores (blockOf o)) (l .out) (a .base + l .written) (angles o) (take (sizeOf (copying (ending c))) (filledOf (copying (ending c)))) (sizeOf (copying (ending c))) (body-size (copying (ending c))))
 
 kept-length : (c : AtStored) (x : List ℕ) → Stored c x → length x ≡ length (blockOf (closing (ending c)) .before .loop .out)
 kept-length c x e =
     let o = closing (ending c) in
     let a = begun (blockOf o) .args in
     let l = blockOf o .before .loop in
-    let k = ending c .before .before .loop2 in
     ap length e
-    ∙ put-length (a .on && stores (blockOf o)) (l .out) (a .base + l .written) (leWrite 4 (k .size) ++ (print angleLayout (angles o) ++ take (k .size) (k .body)))
+    ∙ put-length (a .on && stores (blockOf o)) (l .out) (a .base + l .written) (leWrite 4 (sizeOf (copying (ending c))) ++ (print angleLayout (angles o) ++ take (sizeOf (copying (ending c))) (filledOf (copying (ending c)))))
 
 -- ---- what is asked on the way, in the order of the code
 
@@ -746,7 +784,8 @@ loop2-holds c =
       omega (arith, body-long o, o .before .before .before .read-head .ensures .1 .1 (o .before .before .if2 .left)),
       l .inv .7,
       l .inv .4,
-      refl,
+      ap (λ (x : List ℕ). from-here o (l .messages) (before (blockOf o)) x (readAll messages (before (blockOf o)) (drop (l .start + 16) (body o)))) (sym (far-begins (body o) (begun (blockOf o) .args .on) (l .body) (l .start + 16))),
+      omega arith,
     )
 
 refused-in-requires : tie.Need-refused-in-requires Inv-loop3 μ-loop3 Inv-loop2 μ-loop2 Inv-loop μ-loop
@@ -760,13 +799,13 @@ returns c =
     let m = c .before .before in
     let o = m .before .before .before in
     let k = m .before .loop2 in
-    refuse-message o (k .messages) (held (k .baselines) (k .records) (k .present) (k .rest)) (k .body) (k .at) (k .size) (k .inv) (m .loop2-test .taken) 11
+    refuse-message o (k .messages) (held (k .baselines) (k .records) (k .present) (k .rest)) (k .body) (k .at) (k .size) (k .kept) (k .inv) (m .loop2-test .taken) 11
     (ended-refused (body o) (k .at) (m .loop2-test .taken) (k .baselines) (k .records) (k .present) (k .rest) (c .before .if3 .taken)) (c .refused-in .result) (c .refused-in .ensures)
 
 loop3-holds : tie.Need-loop3-holds Inv-loop3 μ-loop3 Inv-loop2 μ-loop2 Inv-loop μ-loop
 loop3-holds c =
     let i = c .before .before .loop2 .inv in
-    ((i .0, i .1, i .2, i .3, refl), omega arith)
+    ((i .0, i .1, i .2, i .3, refl, i .5), omega arith)
 
 shared-slice-read-k : tie.Need-shared-slice-read-k Inv-loop3 μ-loop3 Inv-loop2 μ-loop2 Inv-loop μ-loop
 shared-slice-read-k c = omega (arith, loaded (c .before))
@@ -786,40 +825,39 @@ array-copy-out-b c = c .before .if5 .left
 update-fields-requires : tie.Need-update-fields-requires Inv-loop3 μ-loop3 Inv-loop2 μ-loop2 Inv-loop μ-loop
 update-fields-requires c κs = omega (arith, c .before .before .before .update-head .ensures .1, loaded (c .before .before .before .before .before .before))
 
-sub-len : tie.Need-sub-len Inv-loop3 μ-loop3 Inv-loop2 μ-loop2 Inv-loop μ-loop
-sub-len c = omega (arith, moves c)
+needless-head-requires : tie.Need-needless-head-requires Inv-loop3 μ-loop3 Inv-loop2 μ-loop2 Inv-loop μ-loop
+needless-head-requires c κs = search needs
 
-slice-aggregate-put-read-update : tie.Need-slice-aggregate-put-read-update Inv-loop3 μ-loop3 Inv-loop2 μ-loop2 Inv-loop μ-loop
-slice-aggregate-put-read-update c = sym (update (updateOf (c .before)) .reached .2)
+slice-aggregate-put-update-behind : tie.Need-slice-aggregate-put-update-behind Inv-loop3 μ-loop3 Inv-loop2 μ-loop2 Inv-loop μ-loop
+slice-aggregate-put-update-behind c = sym (update (updateOf (c .before .before .before)) .reached .2)
 
-put-read-update-requires : tie.Need-put-read-update-requires Inv-loop3 μ-loop3 Inv-loop2 μ-loop2 Inv-loop μ-loop
-put-read-update-requires c κs =
-    (room-for (update (updateOf (c .before))) 24 (omega arith), omega (arith, loaded (updateOf (c .before))))
+put-update-behind-requires : tie.Need-put-update-behind-requires Inv-loop3 μ-loop3 Inv-loop2 μ-loop2 Inv-loop μ-loop
+put-update-behind-requires c κs = room-for (update (updateOf (c .before .before .before))) 24 (omega arith)
 
 mul-records : tie.Need-mul-records Inv-loop3 μ-loop3 Inv-loop2 μ-loop2 Inv-loop μ-loop
-mul-records c = omega (arith, c .before .before .before .before .before .before .before .before .if5 .left)
+mul-records c = omega (arith, c .before .before .before .before .before .before .before .before .before .before .if5 .left)
 
 array-set-from-records : tie.Need-array-set-from-records Inv-loop3 μ-loop3 Inv-loop2 μ-loop2 Inv-loop μ-loop
-array-set-from-records c = c .before .before .before .before .before .before .before .before .if5 .left
+array-set-from-records c = c .before .before .before .before .before .before .before .before .before .before .if5 .left
 
 array-write-present : tie.Need-array-write-present Inv-loop3 μ-loop3 Inv-loop2 μ-loop2 Inv-loop μ-loop
-array-write-present c = c .before .before .before .before .before .before .before .before .if5 .left
+array-write-present c = c .before .before .before .before .before .before .before .before .before .before .if5 .left
 
 add-messages : tie.Need-add-messages Inv-loop3 μ-loop3 Inv-loop2 μ-loop2 Inv-loop μ-loop
-add-messages c = counts (update (updateOf (c .before .before .before)))
+add-messages c = counts (update (updateOf (c .before .before .before .before .before)))
 
 loop3-less : tie.Need-loop3-less Inv-loop3 μ-loop3 Inv-loop2 μ-loop2 Inv-loop μ-loop
 loop3-less c =
-    let r = c .before .before .before in
+    let r = c .before .before .before .before .before in
     let o = ran (updateOf r) in
     moved-less (body o) (body-bytes o) (scene (update (updateOf r))) (updateOf r .before .loop3 .at) (updated r) (to r) (formAt r) (at-once r)
 
 loop3-again : tie.Need-loop3-again Inv-loop3 μ-loop3 Inv-loop2 μ-loop2 Inv-loop μ-loop
 loop3-again c =
-    let r = c .before .before .before in
+    let r = c .before .before .before .before .before in
     let i = updateOf r .before .loop3 .inv in
-    let q = step-on (update (updateOf r)) (updated r) (to r) _ _ (step-once (c .before) _ (c .before .put-read-update .ensures)) in
-    ((q .0, q .1, q .2, q .3, i .0 .4 ∙ q .4), omega (arith, i .1, moves r))
+    let q = step-on (update (updateOf r)) (updated r) (to r) _ _ _ (step-once (c .before) _ (c .before .put-update-behind .ensures)) in
+    ((q .0, q .1, q .2, q .3, i .0 .4 ∙ q .4, q .5), omega (arith, i .1, moves r))
 
 loop2-less : tie.Need-loop2-less Inv-loop3 μ-loop3 Inv-loop2 μ-loop2 Inv-loop μ-loop
 loop2-less c = omega (arith, c .if8 .taken, c .before .before .before .before .loop2-test .taken)
@@ -830,8 +868,8 @@ loop2-again c = reached (c .before .before)
 shared-slice-read-k-2 : tie.Need-shared-slice-read-k-2 Inv-loop3 μ-loop3 Inv-loop2 μ-loop2 Inv-loop μ-loop
 shared-slice-read-k-2 c = search needs
 
-add-t75 : tie.Need-add-t75 Inv-loop3 μ-loop3 Inv-loop2 μ-loop2 Inv-loop μ-loop
-add-t75 c = place-fits (message (c .before))
+add-t81 : tie.Need-add-t81 Inv-loop3 μ-loop3 Inv-loop2 μ-loop2 Inv-loop μ-loop
+add-t81 c = place-fits (message (c .before))
 
 context-requires : tie.Need-context-requires Inv-loop3 μ-loop3 Inv-loop2 μ-loop2 Inv-loop μ-loop
 context-requires c κs = search needs
@@ -849,12 +887,6 @@ returns-2 : tie.Need-returns-2 Inv-loop3 μ-loop3 Inv-loop2 μ-loop2 Inv-loop μ
 returns-2 c =
     refuse-parsed (message (c .before .before .before .before .before .before .before)) _ (c .before .before .before .time-at .result .cursor) (time-parsed (c .before .before .before)) (c .before .if9 .taken) (c .refused-in2 .result) (c .refused-in2 .ensures)
 
-slice-aggregate-put-copy : tie.Need-slice-aggregate-put-copy Inv-loop3 μ-loop3 Inv-loop2 μ-loop2 Inv-loop μ-loop
-slice-aggregate-put-copy c = sym (message (c .before .before .before .before .before .before .before) .reached .2)
-
-put-copy-requires : tie.Need-put-copy-requires Inv-loop3 μ-loop3 Inv-loop2 μ-loop2 Inv-loop μ-loop
-put-copy-requires c κs = copy-fits (message (c .before .before .before .before .before .before .before)) _ (c .before .before .before .time-at .result .cursor) (time-parsed (c .before .before .before)) (c .before .if9 .left)
-
 add-client-at : tie.Need-add-client-at Inv-loop3 μ-loop3 Inv-loop2 μ-loop2 Inv-loop μ-loop
 add-client-at c = place-fits (message (c .before .before))
 
@@ -871,11 +903,11 @@ returns-3 : tie.Need-returns-3 Inv-loop3 μ-loop3 Inv-loop2 μ-loop2 Inv-loop μ
 returns-3 c =
     refuse-parsed (message (c .before .before .before .before .before .before)) _ (c .before .before .before .client-at .result .cursor) (client-parsed (c .before .before .before)) (c .before .if10 .taken) (c .refused-in3 .result) (c .refused-in3 .ensures)
 
-slice-aggregate-put-client : tie.Need-slice-aggregate-put-client Inv-loop3 μ-loop3 Inv-loop2 μ-loop2 Inv-loop μ-loop
-slice-aggregate-put-client c = sym (message (c .before .before .before .before .before .before .before) .reached .2)
+slice-aggregate-put-client-behind : tie.Need-slice-aggregate-put-client-behind Inv-loop3 μ-loop3 Inv-loop2 μ-loop2 Inv-loop μ-loop
+slice-aggregate-put-client-behind c = sym (message (c .before .before .before .before .before .before .before .before) .reached .2)
 
-put-client-requires : tie.Need-put-client-requires Inv-loop3 μ-loop3 Inv-loop2 μ-loop2 Inv-loop μ-loop
-put-client-requires c κs = room-for (message (c .before .before .before .before .before .before .before)) 32 (omega arith)
+put-client-behind-requires : tie.Need-put-client-behind-requires Inv-loop3 μ-loop3 Inv-loop2 μ-loop2 Inv-loop μ-loop
+put-client-behind-requires c κs = room-for (message (c .before .before .before .before .before .before .before .before)) 32 (omega arith)
 
 with-client-requires : tie.Need-with-client-requires Inv-loop3 μ-loop3 Inv-loop2 μ-loop2 Inv-loop μ-loop
 with-client-requires c κs = search needs
@@ -896,13 +928,11 @@ returns-4 : tie.Need-returns-4 Inv-loop3 μ-loop3 Inv-loop2 μ-loop2 Inv-loop μ
 returns-4 c =
     refuse-parsed (message (c .before .before .before .before .before .before .before .before)) _ (c .before .before .before .read-message .result .cursor) (other-read (c .before .before .before)) (c .before .if12 .taken) (c .refused-in4 .result) (c .refused-in4 .ensures)
 
-slice-aggregate-put-other : tie.Need-slice-aggregate-put-other Inv-loop3 μ-loop3 Inv-loop2 μ-loop2 Inv-loop μ-loop
-slice-aggregate-put-other c = sym (message (c .before .before .before .before .before .before .before .before) .reached .2)
+slice-aggregate-put-sound-behind : tie.Need-slice-aggregate-put-sound-behind Inv-loop3 μ-loop3 Inv-loop2 μ-loop2 Inv-loop μ-loop
+slice-aggregate-put-sound-behind c = sym (message (c .before .before .before .before .before .before .before .before) .reached .2)
 
-put-other-requires : tie.Need-put-other-requires Inv-loop3 μ-loop3 Inv-loop2 μ-loop2 Inv-loop μ-loop
-put-other-requires c κs =
-    let f = copy-fits (message (c .before .before .before .before .before .before .before .before)) _ (c .before .before .before .read-message .result .cursor) (other-read (c .before .before .before)) (c .before .if12 .left) in
-    (f .0, f .1, omega (arith, message (c .before .before .before .before .before .before .before .before) .reached .1, message (c .before .before .before .before .before .before .before .before) .reached .2))
+put-sound-behind-requires : tie.Need-put-sound-behind-requires Inv-loop3 μ-loop3 Inv-loop2 μ-loop2 Inv-loop μ-loop
+put-sound-behind-requires c κs = room-for (message (c .before .before .before .before .before .before .before .before)) 16 (omega arith)
 
 enum-known-message : tie.Need-enum-known-message Inv-loop3 μ-loop3 Inv-loop2 μ-loop2 Inv-loop μ-loop
 enum-known-message c = search needs
@@ -951,11 +981,11 @@ array-copy-out-b-2 c = update-index (c .before .before .before)
 fill-update-requires : tie.Need-fill-update-requires Inv-loop3 μ-loop3 Inv-loop2 μ-loop2 Inv-loop μ-loop
 fill-update-requires c κs = search needs
 
-slice-aggregate-put-update : tie.Need-slice-aggregate-put-update Inv-loop3 μ-loop3 Inv-loop2 μ-loop2 Inv-loop μ-loop
-slice-aggregate-put-update c = sym (message (c .before .before .before .before .before .before .before .before .before .before .before .before) .reached .2)
+slice-aggregate-put-update-behind-2 : tie.Need-slice-aggregate-put-update-behind-2 Inv-loop3 μ-loop3 Inv-loop2 μ-loop2 Inv-loop μ-loop
+slice-aggregate-put-update-behind-2 c = sym (message (c .before .before .before .before .before .before .before .before .before .before .before .before) .reached .2)
 
-put-update-requires : tie.Need-put-update-requires Inv-loop3 μ-loop3 Inv-loop2 μ-loop2 Inv-loop μ-loop
-put-update-requires c κs = room-for (message (c .before .before .before .before .before .before .before .before .before .before .before .before)) _ (omega arith)
+put-update-behind-requires-2 : tie.Need-put-update-behind-requires-2 Inv-loop3 μ-loop3 Inv-loop2 μ-loop2 Inv-loop μ-loop
+put-update-behind-requires-2 c κs = room-for (message (c .before .before .before .before .before .before .before .before .before .before .before .before)) _ (omega arith)
 
 mul-records-2 : tie.Need-mul-records-2 Inv-loop3 μ-loop3 Inv-loop2 μ-loop2 Inv-loop μ-loop
 mul-records-2 c = omega (arith, update-index (c .before .before .before .before .before .before .before .before))
@@ -970,52 +1000,61 @@ add-messages-2 : tie.Need-add-messages-2 Inv-loop3 μ-loop3 Inv-loop2 μ-loop2 I
 add-messages-2 c = counts (message (c .before .before))
 
 loop2-less-2 : tie.Need-loop2-less-2 Inv-loop3 μ-loop3 Inv-loop2 μ-loop2 Inv-loop μ-loop
-loop2-less-2 c = omega (arith, step-less (message (c .before .before)) (next c) (c .match .at) (c .match .body) (c .match .size) (came c), c .before .before .before .before .loop3 .inv .1)
+loop2-less-2 c = omega (arith, step-less (message (c .before .before)) (next c) (c .match .at) (c .match .body) (c .match .size) (c .match .kept) (came c), c .before .before .before .before .loop3 .inv .1)
 
 loop2-again-2 : tie.Need-loop2-again-2 Inv-loop3 μ-loop3 Inv-loop2 μ-loop2 Inv-loop μ-loop
 loop2-again-2 c =
     let p = message (c .before .before) in
-    let q = step-on p (next c) (c .match .at) (c .match .body) (c .match .size) (came c) in
-    (q .0, q .1, q .2, q .3, p .reached .4 ∙ q .4)
+    let q = step-on p (next c) (c .match .at) (c .match .body) (c .match .size) (c .match .kept) (came c) in
+    (q .0, q .1, q .2, q .3, p .reached .4 ∙ q .4, q .5)
+
+slice-aggregate-put-copy : tie.Need-slice-aggregate-put-copy Inv-loop3 μ-loop3 Inv-loop2 μ-loop2 Inv-loop μ-loop
+slice-aggregate-put-copy c = sym (c .before .before .loop2 .inv .2)
+
+put-copy-requires : tie.Need-put-copy-requires Inv-loop3 μ-loop3 Inv-loop2 μ-loop2 Inv-loop μ-loop
+put-copy-requires c κs =
+    let k = c .before .before .loop2 in
+    let s = body (c .before .before .before .before) in
+    (k .inv .5, omega (arith, k .inv .1, k .inv .2, length-take (k .at - k .kept) (drop (k .kept) s), length-drop (k .kept) s))
 
 block-size-requires : tie.Need-block-size-requires Inv-loop3 μ-loop3 Inv-loop2 μ-loop2 Inv-loop μ-loop
-block-size-requires c κs = omega (arith, c .before .loop2 .inv .1)
+block-size-requires c κs = fits (c .before) .0
 
 sub-if14 : tie.Need-sub-if14 Inv-loop3 μ-loop3 Inv-loop2 μ-loop2 Inv-loop μ-loop
-sub-if14 c = c .before .before .before .before .before .before .before .before .before .before .loop .inv .5
+sub-if14 c = c .before .before .before .before .before .before .before .before .before .before .before .before .before .loop .inv .5
 
 refused-in-requires-6 : tie.Need-refused-in-requires-6 Inv-loop3 μ-loop3 Inv-loop2 μ-loop2 Inv-loop μ-loop
 refused-in-requires-6 c κs = search needs
 
 same-length-6 : tie.Need-same-length-6 Inv-loop3 μ-loop3 Inv-loop2 μ-loop2 Inv-loop μ-loop
-same-length-6 c = c .before .before .before .before .before .before .before .before .before .before .before .before .loop .inv .6
+same-length-6 c = c .before .before .before .before .before .before .before .before .before .before .before .before .before .before .before .loop .inv .6
 
 returns-6 : tie.Need-returns-6 Inv-loop3 μ-loop3 Inv-loop2 μ-loop2 Inv-loop μ-loop
 returns-6 c = short (c .before) (c .refused-in6 .result) (c .refused-in6 .ensures)
 
 slice-aggregate-store-block : tie.Need-slice-aggregate-store-block Inv-loop3 μ-loop3 Inv-loop2 μ-loop2 Inv-loop μ-loop
-slice-aggregate-store-block c = sym (c .before .before .before .before .before .loop2 .inv .2)
+slice-aggregate-store-block c = sym (fits (c .before .before .before .before .before) .1)
 
 store-block-requires : tie.Need-store-block-requires Inv-loop3 μ-loop3 Inv-loop2 μ-loop2 Inv-loop μ-loop
 store-block-requires c κs =
-    let k = c .before .before .before .before .before .loop2 in
-    (room-there (c .before .before), omega (arith, k .inv .1, k .inv .2), omega (arith, k .inv .1))
+    let f = fits (c .before .before .before .before .before) in
+    (room-there (c .before .before), omega (arith, f), f .0)
 
 add-written : tie.Need-add-written Inv-loop3 μ-loop3 Inv-loop2 μ-loop2 Inv-loop μ-loop
-add-written c = omega (arith, c .before .before .before .before .before .if14 .left, c .before .before .before .before .before .before .before .before .before .before .before .before .before .before .before .before .loop .inv .5, c .before .before .before .before .before .before .before .before .before .before .before .before .before .before .before .before .before .before .before .before .before .before .before .fits .room)
+add-written c = omega (arith, c .before .before .before .before .before .if14 .left, c .before .before .before .before .before .before .before .before .before .before .before .before .before .before .before .before .before .before .before .loop .inv .5, c .before .before .before .before .before .before .before .before .before .before .before .before .before .before .before .before .before .before .before .before .before .before .before .before .before .before .fits .room)
 
 add-blocks : tie.Need-add-blocks Inv-loop3 μ-loop3 Inv-loop2 μ-loop2 Inv-loop μ-loop
-add-blocks c = omega (arith, more (c .before .before .before .before .before .before .before .before .before .before .before .before .before .before .before), c .before .before .before .before .before .before .before .before .before .before .before .before .before .before .before .before .before .before .before .before .before .before .before .fits .most)
+add-blocks c = omega (arith, more (c .before .before .before .before .before .before .before .before .before .before .before .before .before .before .before .before .before .before), c .before .before .before .before .before .before .before .before .before .before .before .before .before .before .before .before .before .before .before .before .before .before .before .before .before .before .fits .most)
 
 loop-less : tie.Need-loop-less Inv-loop3 μ-loop3 Inv-loop2 μ-loop2 Inv-loop μ-loop
-loop-less c = omega (arith, more (c .before .before .before .before .before .before .before .before .before .before .before .before .before .before .before))
+loop-less c = omega (arith, more (c .before .before .before .before .before .before .before .before .before .before .before .before .before .before .before .before .before .before))
 
 loop-again : tie.Need-loop-again Inv-loop3 μ-loop3 Inv-loop2 μ-loop2 Inv-loop μ-loop
 loop-again c =
     let e = c .before .before .before .before .before in
     let w = c .before .before in
     let o = closing (e .before) in
-    let k = c .before .before .before .before .before .before .before .before .loop2 in
+    let k = left (copying (e .before)) .loop2 in
     let a = begun (blockOf o) .args in
     let l = blockOf o .before .loop in
     let n : a .most - l .blocks - 1 ≡ a .most - (l .blocks + 1) = omega arith in (
@@ -1026,7 +1065,7 @@ loop-again c =
       k .inv .3,
       omega (arith, e .if14 .left, l .inv .5),
       kept-length w _ (w .store-block .ensures) ∙ l .inv .6,
-      k .inv .2,
+      fits (copying (e .before)) .1,
       goes-on e ∙ ap₂ (λ (x : List ℕ) (j : ℕ). wroteOf (sceneOf (a .given)) (length (input (blockOf o))) (stores (blockOf o)) (a .base) (l .blocks + 1) (k .messages) (l .written + e .before .block-size .result) x (runOf (a .on) j (a .room - (l .written + e .before .block-size .result)) (after (e .before)) (drop (end o) (input (blockOf o))))) (stored-there w _ (w .store-block .ensures)) n,
     )
 
@@ -1089,9 +1128,9 @@ write-blocks-spec =
     mul-b
     array-copy-out-b
     update-fields-requires
-    sub-len
-    slice-aggregate-put-read-update
-    put-read-update-requires
+    needless-head-requires
+    slice-aggregate-put-update-behind
+    put-update-behind-requires
     mul-records
     array-set-from-records
     array-write-present
@@ -1101,29 +1140,27 @@ write-blocks-spec =
     loop2-less
     loop2-again
     shared-slice-read-k-2
-    add-t75
+    add-t81
     context-requires
     time-at-requires
     refused-in-requires-2
     same-length-2
     returns-2
-    slice-aggregate-put-copy
-    put-copy-requires
     add-client-at
     client-at-requires
     refused-in-requires-3
     same-length-3
     returns-3
-    slice-aggregate-put-client
-    put-client-requires
+    slice-aggregate-put-client-behind
+    put-client-behind-requires
     with-client-requires
     context-requires-2
     read-message-requires
     refused-in-requires-4
     same-length-4
     returns-4
-    slice-aggregate-put-other
-    put-other-requires
+    slice-aggregate-put-sound-behind
+    put-sound-behind-requires
     enum-known-message
     cast-i
     mul-baselines
@@ -1139,14 +1176,16 @@ write-blocks-spec =
     mul-b-2
     array-copy-out-b-2
     fill-update-requires
-    slice-aggregate-put-update
-    put-update-requires
+    slice-aggregate-put-update-behind-2
+    put-update-behind-requires-2
     mul-records-2
     array-set-from-records-2
     array-write-present-2
     add-messages-2
     loop2-less-2
     loop2-again-2
+    slice-aggregate-put-copy
+    put-copy-requires
     block-size-requires
     sub-if14
     refused-in-requires-6

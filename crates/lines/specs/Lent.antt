@@ -8,9 +8,9 @@ use mir.Syntax.{w16}
 use mir.Val.{ofZ}
 use Rattle.dem.specs.Limits.{playerCount}
 use Rattle.dem.specs.Refusal.{code, wrongNumber, wrongScene}
-use Rattle.dem.specs.Scene.{PlayerLine, zeroLine}
-use Rattle.dem.specs.Message.{setFrags, setColours}
-use Rattle.dem.specs.Answer.{Answer, result, refusal}
+use Rattle.dem.specs.Scene.{PlayerLine, Scene, zeroLine}
+use Rattle.dem.specs.Message.{Message, setFrags, setColours}
+use Rattle.dem.specs.Answer.{Answer, result, refusal, Item, Reply, reply, messageAt}
 use Rattle.lines.specs.declared.LineChange.{LineChange}
 use Rattle.lines.specs.declared.LineChange.the-variants as C
 use Rattle.lines.specs.declared.LinesAnswer.{LinesAnswer}
@@ -48,3 +48,27 @@ unfoldable pub changeLent : LineChange → List PlayerLine → Lent (Answer (Uni
 changeLent c lines =
     cond (not (eqb (length lines) playerCount)) (lent (refusal (code wrongScene) 0) lines)
     (cond (not (ltb (playerOf c) playerCount)) (lent (refusal (code wrongNumber) 0) lines) (lent (result tt) (changedLines c lines)))
+
+-- ---- a message with the lines lent
+
+abbrev pub withLines : List PlayerLine → Scene → Scene
+withLines lines s =
+    record {
+      baselines = s .baselines;
+      records = s .records;
+      present = s .present;
+      stats = s .stats;
+      client = s .client;
+      view = s .view;
+      pause = s .pause;
+      statics = s .statics;
+      limit = s .limit;
+      time = s .time;
+      ended = s .ended;
+      players = lines;
+    }
+
+-- What is answered in the scene that has the lent lines; afterwards they are that scene's, and the scene handed back has its own.
+abbrev pub messageLent : Scene → List PlayerLine → List ℕ → ℕ → Lent (Reply Scene (Item Message Message))
+messageLent s lines bytes at =
+    let r = messageAt (withLines lines s) bytes at in lent (reply (withLines (s .players) (r .scene)) (r .answer)) (r .scene .players)

@@ -1,11 +1,18 @@
--- How code goes about a change: which lines it goes through, and what each turn does.
+-- How code goes about a change: which lines it goes through, what each turn does, and which change a message brings.
 use mathlib.Core.List.{List}
 use mathlib.Core.Bool.{cond, not}
 use Prim.Native.Nat.{ℕ, zero, suc, _+_}
 use lib.Dec.{eqb, ltb}
 use lib.IntN.{pos}
 use lib.ListN.{getD, set}
+use Rattle.dem.specs.Scene.{PlayerLine as Line, Scene as Described}
+use Rattle.dem.specs.Message.{apply, fill}
+use Rattle.wire.specs.declared.Text.{Text}
+use Rattle.message.specs.Values.{valuesBy}
+use Rattle.scene.specs.Views.{Numbered}
 use Rattle.scene.specs.declared.PlayerLine.{PlayerLine}
+use Rattle.cobbrundle.specs.declared.MessageAnswer.{MessageAnswer}
+use Rattle.cobbrundle.specs.declared.MessageAnswer.the-variants.{Found, End, Refused}
 use Rattle.lines.specs.declared.Plan.{Plan}
 use Rattle.lines.specs.declared.LineChange.{LineChange}
 use Rattle.lines.specs.declared.LineChange.the-variants as C
@@ -43,3 +50,16 @@ changedLine C.Clear l = clearLine
 unfoldable pub changedFrom : LineChange → ℕ → ℕ → List PlayerLine → List PlayerLine
 changedFrom c zero i lines = lines
 changedFrom c (suc n) i lines = changedFrom c n (i + 1) (set lines i (changedLine c (getD lines i clearLine)))
+
+-- ---- a message
+
+abbrev pub NumberedIn : MessageAnswer → Type 0
+NumberedIn (Found m f next) = Numbered m
+NumberedIn End = Unit {0}
+NumberedIn (Refused n p) = Unit {0}
+
+-- The lines of a scene after an answer in it.
+abbrev pub linesAfter : Described → (Text → List ℕ) → MessageAnswer → List Line
+linesAfter s t (Found m f next) = apply s (fill s (valuesBy t m)) .players
+linesAfter s t End = s .players
+linesAfter s t (Refused n p) = s .players

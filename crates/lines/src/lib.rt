@@ -1,12 +1,22 @@
 // Player lines that a caller lends as one list, changed in place.
 ghost use mathlib.Core.Path.{_≡_};
-ghost use mathlib.Core.List.{map};
+ghost use mathlib.Core.List.{List, map};
+ghost use Prim.Native.Nat.{ℕ};
 ghost use lib.ListN.{length};
-ghost use Rattle.scene.specs.Views.{lineOf};
-ghost use Rattle.lines.specs.Lent.{lent, answerOf, changeLent};
-ghost use Rattle.lines.specs.Turns.{refusedPlan, linePlan, planOf, changedLine};
+ghost use Rattle.dem.specs.Scene.{Scene as Described, PlayerLine as Line};
+ghost use Rattle.dem.specs.Message.{apply, fill};
+ghost use Rattle.wire.specs.declared.Text.{Text};
+ghost use Rattle.message.specs.Values.{valuesBy};
+ghost use Rattle.scene.specs.Views.{lineOf, sceneOf, Numbered};
+ghost use Rattle.cobbrundle.specs.Replies.{replyOf};
+ghost use Rattle.lines.specs.Lent.{lent, answerOf, changedLines, changeLent, withLines, messageLent};
+ghost use Rattle.lines.specs.Turns.{refusedPlan, linePlan, planOf, changedLine, NumberedIn, linesAfter};
+use cobbrundle::MessageAnswer;
+use cobbrundle::MessageReply;
+use message::Message;
 use message::Player;
 use scene::PlayerLine;
+use scene::Scene;
 
 // What is done to the lines. Clearing is what serverinfo does to them.
 pub enum LineChange {
@@ -109,4 +119,71 @@ pub fn change_lines(lines: &mut [PlayerLine], change: LineChange) -> LinesAnswer
         i = i + 1;
     }
     plan.answer
+}
+
+// ---- a message with the lines lent
+
+fn change_of(message: Message) -> LineChange
+    ensures { λ r. ⌜ ((s : Described) (t : Text → List ℕ) → Numbered message → changedLines r (s .players) ≡ apply s (fill s (valuesBy t message)) .players) ⌝ }
+{
+    match message {
+        Message::Serverinfo(_) => LineChange::Clear,
+        Message::Frags(player, frags) => LineChange::Frags(player, frags),
+        Message::Colours(player, colours) => LineChange::Colours(player, colours),
+        _ => LineChange::Nothing,
+    }
+}
+
+fn change_by(answer: MessageAnswer) -> LineChange
+    ensures { λ r. ⌜ ((s : Described) (t : Text → List ℕ) → NumberedIn answer → changedLines r (s .players) ≡ linesAfter s t answer) ⌝ }
+{
+    match answer {
+        MessageAnswer::Found(message, _, _) => change_of(message),
+        MessageAnswer::End => LineChange::Nothing,
+        MessageAnswer::Refused(_, _) => LineChange::Nothing,
+    }
+}
+
+fn with_lines(scene: Scene, lines: [PlayerLine; 16]) -> Scene
+    ensures { λ r. ⌜ sceneOf r ≡ withLines (map lineOf lines) (sceneOf scene) ⌝ }
+{
+    let mut changed = scene;
+    let mut rest = scene.rest;
+    rest.players = lines;
+    changed.rest = rest;
+    changed
+}
+
+// A message's answer, and what it does to the lines that are lent.
+struct Told {
+    reply: MessageReply,
+    change: LineChange,
+}
+
+// The scene's own lines are not looked at, and are handed back as they were given.
+fn told_at(scene: Scene, bytes: &[u8], at: usize, count: usize) -> Told
+    ensures { λ r. ⌜ ((lines : List Line) → length lines ≡ count → lent (replyOf (now (bytes .entry)) (r .reply)) (changeLent (r .change) lines .lines) ≡ messageLent (sceneOf scene) lines (now (bytes .entry)) at) ⌝ }
+{
+    if count != LINE_COUNT {
+        return Told {
+            reply: MessageReply {
+                answer: MessageAnswer::Refused(14, 0),
+                scene,
+            },
+            change: LineChange::Nothing,
+        };
+    }
+    let rest = scene.rest;
+    let own = rest.players;
+    let found = cobbrundle::read_message_at(scene, bytes, at);
+    let answer = found.answer;
+    let after = found.scene;
+    let reply = MessageReply {
+        answer,
+        scene: with_lines(after, own),
+    };
+    Told {
+        reply,
+        change: change_by(answer),
+    }
 }

@@ -29,9 +29,8 @@ use Rattle.cobbrundle.specs.declared.MessageReply.{MessageReply}
 use Rattle.cobbrundle.proofs.Messages.{FoundAt, found-good, found-reply-at}
 use Rattle.cobbrundle.proofs.Writing.{allowed-numbered}
 use Rattle.lines.specs.declared.LineChange.{LineChange}
-use Rattle.lines.specs.declared.LineChange.the-variants as C
 use Rattle.lines.specs.Lent.{Lent, lent, changedLines, changeLent, withLines, messageLent}
-use Rattle.lines.specs.Turns.{NumberedIn, linesAfter}
+use Rattle.lines.specs.Turns.{NumberedIn, linesAfter, Brings}
 use Rattle.lines.proofs.Lending.{not-sixteen, message-refused, lines-changed, same-fill, leftBy, message-lent}
 
 -- ---- messages that change no line, by their place in the list of messages
@@ -80,10 +79,10 @@ others-bring (M.Update u) h s t n = ap (λ (v : List Value). apply s v .players)
 -- ---- what is told of a message with the lines lent
 
 -- Of lines that are not sixteen.
-pub refused-lent : (s : Scene) (bytes : List ℕ) (at : ℕ) (lines : List PlayerLine) → (length lines ≡ 16 → ⊥)
-    → lent (reply s (refusal 14 0)) (changeLent C.Nothing lines .lines) ≡ messageLent s lines bytes at
-refused-lent s bytes at lines n =
-    ap (λ (l : Lent (Answer (Unit {0}))). lent (reply s (refusal 14 0)) (l .lines)) (not-sixteen C.Nothing lines (ne-eqb (length lines) 16 n))
+pub refused-lent : (s : Scene) (bytes : List ℕ) (at : ℕ) (c : LineChange) (lines : List PlayerLine) → (length lines ≡ 16 → ⊥)
+    → lent (reply s (refusal 14 0)) (changeLent c lines .lines) ≡ messageLent s lines bytes at
+refused-lent s bytes at c lines n =
+    ap (λ (l : Lent (Answer (Unit {0}))). lent (reply s (refusal 14 0)) (l .lines)) (not-sixteen c lines (ne-eqb (length lines) 16 n))
     ∙ sym (message-refused s lines bytes at n)
 
 module _ (s : Scene) (bytes : List ℕ) (in-bytes : Bytes bytes) (at : ℕ) (r : MessageReply) (read : replyOf bytes r ≡ messageAt s bytes at) where
@@ -112,8 +111,7 @@ module _ (s : Scene) (bytes : List ℕ) (in-bytes : Bytes bytes) (at : ℕ) (r :
   left-by lines (Refused n p) e = refl
 
   -- By the change that the answer brings, and the scene after it with its own lines.
-  pub told-lent : length (s .players) ≡ 16 → (c : LineChange)
-      → ((t : Scene) (g : Text → List ℕ) → NumberedIn (r .answer) → changedLines c (t .players) ≡ linesAfter t g (r .answer))
+  pub told-lent : length (s .players) ≡ 16 → (c : LineChange) → Brings c (r .answer)
       → (u : Held) → sceneOf u ≡ withLines (s .players) (sceneOf (r .scene)) → (lines : List PlayerLine) → length lines ≡ 16
       → lent (reply (sceneOf u) (answerOf bytes (r .answer))) (changeLent c lines .lines) ≡ messageLent s lines bytes at
   told-lent own c brought u kept lines l =

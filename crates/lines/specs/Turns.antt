@@ -1,4 +1,5 @@
 -- How code goes about a change: which lines it goes through, what each turn does, and which change a message brings.
+use mathlib.Core.Path.{_≡_}
 use mathlib.Core.List.{List}
 use mathlib.Core.Bool.{cond, not}
 use Prim.Native.Nat.{ℕ, zero, suc, _+_}
@@ -13,6 +14,7 @@ use Rattle.scene.specs.Views.{Numbered}
 use Rattle.scene.specs.declared.PlayerLine.{PlayerLine}
 use Rattle.cobbrundle.specs.declared.MessageAnswer.{MessageAnswer}
 use Rattle.cobbrundle.specs.declared.MessageAnswer.the-variants.{Found, End, Refused}
+use Rattle.lines.specs.Lent.{changedLines}
 use Rattle.lines.specs.declared.Plan.{Plan}
 use Rattle.lines.specs.declared.LineChange.{LineChange}
 use Rattle.lines.specs.declared.LineChange.the-variants as C
@@ -63,3 +65,7 @@ abbrev pub linesAfter : Described → (Text → List ℕ) → MessageAnswer → 
 linesAfter s t (Found m f next) = apply s (fill s (valuesBy t m)) .players
 linesAfter s t End = s .players
 linesAfter s t (Refused n p) = s .players
+
+-- This change is what an answer brings to the lines, in any scene.
+abbrev pub Brings : LineChange → MessageAnswer → Type 0
+Brings c a = (s : Described) (t : Text → List ℕ) → NumberedIn a → changedLines c (s .players) ≡ linesAfter s t a

@@ -9,8 +9,9 @@ ghost use Rattle.wire.specs.declared.Text.{Text};
 ghost use Rattle.message.specs.Values.{valuesBy};
 ghost use Rattle.scene.specs.Views.{lineOf, sceneOf, Numbered};
 ghost use Rattle.cobbrundle.specs.Replies.{replyOf};
+ghost use Rattle.lines.specs.declared.LineChange.{LineChange};
 ghost use Rattle.lines.specs.Lent.{lent, answerOf, changedLines, changeLent, withLines, messageLent};
-ghost use Rattle.lines.specs.Turns.{refusedPlan, linePlan, planOf, changedLine, NumberedIn, linesAfter};
+ghost use Rattle.lines.specs.Turns.{refusedPlan, linePlan, planOf, changedLine, Brings};
 use cobbrundle::MessageAnswer;
 use cobbrundle::MessageReply;
 use message::Message;
@@ -134,9 +135,11 @@ fn change_of(message: Message) -> LineChange
     }
 }
 
-fn change_by(answer: MessageAnswer) -> LineChange
-    ensures { λ r. ⌜ ((s : Described) (t : Text → List ℕ) → NumberedIn answer → changedLines r (s .players) ≡ linesAfter s t answer) ⌝ }
+// A refusal, and the end, bring none.
+fn change_by(reply: MessageReply) -> LineChange
+    ensures { λ r. ⌜ Brings r (reply .answer) ⌝ }
 {
+    let answer = reply.answer;
     match answer {
         MessageAnswer::Found(message, _, _) => change_of(message),
         MessageAnswer::End => LineChange::Nothing,
@@ -154,23 +157,14 @@ fn with_lines(scene: Scene, lines: [PlayerLine; 16]) -> Scene
     changed
 }
 
-// A message's answer, and what it does to the lines that are lent.
-struct Told {
-    reply: MessageReply,
-    change: LineChange,
-}
-
-// The scene's own lines are not looked at, and are handed back as they were given.
-fn told_at(scene: Scene, bytes: &[u8], at: usize, count: usize) -> Told
-    ensures { λ r. ⌜ ((lines : List Line) → length lines ≡ count → lent (replyOf (now (bytes .entry)) (r .reply)) (changeLent (r .change) lines .lines) ≡ messageLent (sceneOf scene) lines (now (bytes .entry)) at) ⌝ }
+// The reply where so many lines are lent. The scene's own lines are not looked at, and are handed back as they were given.
+fn reply_at(scene: Scene, bytes: &[u8], at: usize, count: usize) -> MessageReply
+    ensures { λ r. ⌜ ((c : LineChange) → Brings c (r .answer) → (lines : List Line) → length lines ≡ count → lent (replyOf (now (bytes .entry)) r) (changeLent c lines .lines) ≡ messageLent (sceneOf scene) lines (now (bytes .entry)) at) ⌝ }
 {
     if count != LINE_COUNT {
-        return Told {
-            reply: MessageReply {
-                answer: MessageAnswer::Refused(14, 0),
-                scene,
-            },
-            change: LineChange::Nothing,
+        return MessageReply {
+            answer: MessageAnswer::Refused(14, 0),
+            scene,
         };
     }
     let rest = scene.rest;
@@ -178,12 +172,23 @@ fn told_at(scene: Scene, bytes: &[u8], at: usize, count: usize) -> Told
     let found = cobbrundle::read_message_at(scene, bytes, at);
     let answer = found.answer;
     let after = found.scene;
-    let reply = MessageReply {
+    MessageReply {
         answer,
         scene: with_lines(after, own),
-    };
-    Told {
-        reply,
-        change: change_by(answer),
     }
+}
+
+// The message at a place of a block's bytes, in a scene whose lines are lent.
+pub fn read_message_lent(
+    scene: Scene,
+    bytes: &[u8],
+    at: usize,
+    lines: &mut [PlayerLine],
+) -> MessageReply
+    ensures { λ r. ⌜ lent (replyOf (now (bytes .entry)) r) (map lineOf (now (lines .exit))) ≡ messageLent (sceneOf scene) (map lineOf (now (lines .entry))) (now (bytes .entry)) at ⌝ }
+{
+    let reply = reply_at(scene, bytes, at, lines.len());
+    let change = change_by(reply);
+    change_lines(lines, change);
+    reply
 }

@@ -34,10 +34,10 @@ pub enum LinesAnswer {
 }
 
 // An answer, and the lines that change: from `first` up to `end`.
-struct Plan {
-    answer: LinesAnswer,
-    first: usize,
-    end: usize,
+pub struct Plan {
+    pub answer: LinesAnswer,
+    pub first: usize,
+    pub end: usize,
 }
 
 const LINE_COUNT: usize = 16;
@@ -66,7 +66,9 @@ fn one_line(player: Player) -> Plan
     refused(9)
 }
 
-fn plan_of(count: usize, change: LineChange) -> Plan
+// What a change is answered where so many lines are lent. This and `changed_line` are what `change_lines` is made of, for callers that keep
+// the lines by value.
+pub fn plan_of(count: usize, change: LineChange) -> Plan
     ensures { λ r. ⌜ r ≡ planOf count change ⌝ }
 {
     if count != LINE_COUNT {
@@ -88,7 +90,8 @@ fn plan_of(count: usize, change: LineChange) -> Plan
     }
 }
 
-fn changed_line(line: PlayerLine, change: LineChange) -> PlayerLine
+// A line that changes.
+pub fn changed_line(line: PlayerLine, change: LineChange) -> PlayerLine
     ensures { λ r. ⌜ r ≡ changedLine change line ⌝ }
 {
     match change {

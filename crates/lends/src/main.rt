@@ -1,5 +1,5 @@
-// The player lines changed one change after the other, by the two functions that `lines::change_lines` is made of. After each change: its
-// answer, and the lines that are not clear.
+// The lines of players 0, 3 and 15, changed one change after the other by the two functions that `lines::change_lines` is made of: which
+// lines change, and what each of them holds afterwards. What a change tells: its answer, the lines that it goes through, and the three lines.
 use lines::LineChange;
 use lines::LinesAnswer;
 use message::Player;
@@ -17,43 +17,50 @@ fn tell(answer: LinesAnswer) {
 }
 
 fn tell_line(player: usize, line: PlayerLine) {
-    let frags = line.frags;
-    let colours = line.colours;
-    if frags == 0 {
-        if colours == 0 {
-            return;
-        }
-    }
-    show::count(b"  player", player);
-    show::short(b"frags", frags);
-    show::byte(b"colours", colours);
+    show::count(b"  player ", player);
+    show::short(b" frags ", line.frags);
+    show::byte(b" colours ", line.colours);
     show::say(b"\n");
 }
 
-fn tell_lines(lines: [PlayerLine; 16]) {
-    let mut i = 0;
-    while i < 16 {
-        tell_line(i, lines[i]);
-        i = i + 1;
+// A line after a change of the lines from `first` up to `end`.
+fn after(i: usize, line: PlayerLine, first: usize, end: usize, change: LineChange) -> PlayerLine {
+    if i < first {
+        return line;
     }
+    if i < end {
+        return lines::changed_line(line, change);
+    }
+    line
 }
 
-// As `lines::change_lines` does, where so many lines are lent.
-fn change(given: [PlayerLine; 16], count: usize, change: LineChange) -> [PlayerLine; 16] {
-    let mut after = given;
+struct Lines {
+    zero: PlayerLine,
+    three: PlayerLine,
+    fifteen: PlayerLine,
+}
+
+// Where so many lines are lent.
+fn change(given: Lines, count: usize, change: LineChange) -> Lines {
     let plan = lines::plan_of(count, change);
-    tell(plan.answer);
+    let answer = plan.answer;
+    let first = plan.first;
     let end = plan.end;
-    let mut i = plan.first;
-    while i < end {
-        if i < 16 {
-            let line = after[i];
-            after[i] = lines::changed_line(line, change);
-        }
-        i = i + 1;
+    tell(answer);
+    show::count(b"  from ", first);
+    show::count(b" up to ", end);
+    show::say(b"\n");
+    let zero = after(0, given.zero, first, end, change);
+    let three = after(3, given.three, first, end, change);
+    let fifteen = after(15, given.fifteen, first, end, change);
+    tell_line(0, zero);
+    tell_line(3, three);
+    tell_line(15, fifteen);
+    Lines {
+        zero,
+        three,
+        fifteen,
     }
-    tell_lines(after);
-    after
 }
 
 fn main() {
@@ -61,7 +68,11 @@ fn main() {
         frags: 0,
         colours: 0,
     };
-    let clear = [line; 16];
+    let clear = Lines {
+        zero: line,
+        three: line,
+        fifteen: line,
+    };
     show::say(b"frags -1 of player 0\n");
     let a = change(clear, 16, LineChange::Frags(Player(0), -1));
     show::say(b"colours 59 of player 0\n");

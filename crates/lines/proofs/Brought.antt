@@ -29,7 +29,7 @@ use Rattle.cobbrundle.specs.declared.MessageReply.{MessageReply}
 use Rattle.cobbrundle.proofs.Messages.{FoundAt, found-good, found-reply-at}
 use Rattle.cobbrundle.proofs.Writing.{allowed-numbered}
 use Rattle.lines.specs.declared.LineChange.{LineChange}
-use Rattle.lines.specs.Lent.{Lent, lent, changedLines, changeLent, withLines, messageLent}
+use Rattle.lines.specs.Lent.{Lent, lent, changeLent, withLines, messageLent}
 use Rattle.lines.specs.Turns.{NumberedIn, linesAfter, Brings}
 use Rattle.lines.proofs.Lending.{not-sixteen, message-refused, lines-changed, same-fill, leftBy, message-lent}
 

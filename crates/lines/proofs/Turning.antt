@@ -1,12 +1,12 @@
 -- The turns of a change's loop, and that they lead to the change: where a turn stands, the turn after it, and what all of them come to.
 -- Assumes nothing.
-use mathlib.Core.Path.{_≡_, refl, sym, ap, ap₂, _∙_, subst}
+use mathlib.Core.Path.{_≡_, refl, sym, ap, _∙_}
 use mathlib.Core.List.{List, [], _∷_, _++_, map}
-use mathlib.Core.Bool.{Bool, true, false, cond, not}
+use mathlib.Core.Bool.{Bool, true, false, not}
 use mathlib.Core.WellFounded.{WellFounded, InvImage·wf}
-use Prim.Native.Nat.{ℕ, zero, suc, _+_, _-_, _<_, _≤_}
+use Prim.Native.Nat.{ℕ, suc, _+_, _-_, _<_, _≤_}
 use native.Mathlib.Omega.{arith}
-use borrow.Author.Tests.{eqb-true, eqb-false, ltb-true, eq-eqb, ne-eqb}
+use borrow.Author.Tests.{eqb-true, ltb-true}
 use lib.Dec.{eqb, ltb}
 use lib.ListN.{length, set, getD, replicate, length-set, length-map, length-append}
 use lib.Seq.{set-append-seam, append-snoc}
@@ -25,7 +25,7 @@ use Rattle.lines.specs.declared.LineChange.the-variants as C
 use Rattle.lines.specs.declared.Plan.{Plan}
 use Rattle.lines.specs.Lent.{Lent, lent, answerOf, changedLines, playerOf, changeLent}
 use Rattle.lines.proofs.Lending.{not-sixteen, no-line, changes}
-use Rattle.lines.specs.Turns.{refusedPlan, linePlan, changePlan, planOf, clearLine, changedLine, changedFrom}
+use Rattle.lines.specs.Turns.{linePlan, changePlan, planOf, clearLine, changedLine, changedFrom}
 
 -- Behind some turns: how many lines are left, the next one, and the lines by now, which what is left takes to zs.
 pub record Turn (c : LineChange) (end : ℕ) (xs zs : List PlayerLine) : Type 0 where

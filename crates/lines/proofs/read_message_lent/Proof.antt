@@ -1,7 +1,7 @@
 -- `lines::read_message_lent` meets its contract: a walk of its MIR, by hand. Scene, bytes, place and the lines' number go to `reply_at`, what that answers to `change_by`, and the change that this answers, with the lines, to `change_lines`; the reply is returned.
 -- What a scene, a `&[u8]` and a reply own is had twice: one copy goes to a call, and one is kept. The lines are given up for good. All that the proof knows of the three functions is that they meet their contracts. The types of a scene, a reply, a change and an answer are named where the walk would write them out.
 -- Assumes nothing.
-use mathlib.Core.Path.{_≡_, refl, sym, ap, subst, _∙_}
+use mathlib.Core.Path.{_≡_, refl, ap, subst, _∙_}
 use Prim.Native.Nat.{ℕ, _<_, _^_}
 use mathlib.Core.List.{List, [], _∷_, map}
 use lib.ListN.{length, length-map}
@@ -52,7 +52,7 @@ use Rattle.cobbrundle.proofs.MessageReply as Y
 use Rattle.cobbrundle.proofs.MessageReply.Laws as Y′
 use Rattle.lines.specs.declared.LineChange.{LineChange}
 use Rattle.lines.specs.declared.LinesAnswer.{LinesAnswer}
-use Rattle.lines.specs.Lent.{Lent, lent, changeLent, messageLent}
+use Rattle.lines.specs.Lent.{lent, changeLent, messageLent}
 use Rattle.lines.specs.Turns.{Brings}
 use Rattle.lines.proofs.LineChange as G
 use Rattle.lines.proofs.LineChange.Laws as G′

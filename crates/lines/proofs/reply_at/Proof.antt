@@ -1,6 +1,6 @@
 -- `lines::reply_at` meets its contract: lines that are not sixteen are refused, and else the answer by value is the one with the lines lent.
 -- Assumes nothing.
-use mathlib.Core.Path.{sym, ap, _∙_}
+use mathlib.Core.Path.{_∙_}
 use native.Mathlib.Omega.{arith}
 use lib.ListN.{length-map}
 use borrow.Author.Needs.{needs}

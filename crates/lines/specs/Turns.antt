@@ -6,6 +6,8 @@ use Prim.Native.Nat.{ℕ, zero, suc, _+_}
 use lib.Dec.{eqb, ltb}
 use lib.IntN.{pos}
 use lib.ListN.{getD, set}
+use Rattle.dem.specs.Limits.{playerCount}
+use Rattle.dem.specs.Refusal.{code, wrongNumber, wrongScene}
 use Rattle.dem.specs.Scene.{PlayerLine as Line, Scene as Described}
 use Rattle.dem.specs.Message.{apply, fill}
 use Rattle.wire.specs.declared.Text.{Text}
@@ -28,16 +30,16 @@ abbrev pub refusedPlan : ℕ → Plan
 refusedPlan n = plan (L.Refused n 0) 0 0
 
 abbrev pub linePlan : ℕ → Plan
-linePlan p = cond (ltb p 16) (plan L.Changed p (p + 1)) (refusedPlan 9)
+linePlan p = cond (ltb p playerCount) (plan L.Changed p (p + 1)) (refusedPlan (code wrongNumber))
 
 abbrev pub changePlan : LineChange → Plan
 changePlan C.Nothing = plan L.Changed 0 0
 changePlan (C.Frags p v) = linePlan (p .0)
 changePlan (C.Colours p v) = linePlan (p .0)
-changePlan C.Clear = plan L.Changed 0 16
+changePlan C.Clear = plan L.Changed 0 playerCount
 
 abbrev pub planOf : ℕ → LineChange → Plan
-planOf count c = cond (not (eqb count 16)) (refusedPlan 14) (changePlan c)
+planOf count c = cond (not (eqb count playerCount)) (refusedPlan (code wrongScene)) (changePlan c)
 
 abbrev pub clearLine : PlayerLine
 clearLine = record { frags = pos 0; colours = 0 }

@@ -6,8 +6,8 @@ use mathlib.Core.List.{List, [], _∷_, _++_, append-assoc, append-nil}
 use mathlib.Core.Bool.{Bool, true, false, cond, _&&_}
 use Prim.Native.Nat.{ℕ, zero, suc, _+_, _-_, _<_, _≤_}
 use native.Mathlib.Omega.{arith}
-use borrow.Author.Tests.{eq-eqb, ne-eqb, lt-ltb, le-ltb, ltb-true, ltb-false}
-use lib.Dec.{ltb, eqb}
+use borrow.Author.Tests.{eq-eqb, ne-eqb, lt-ltb, le-ltb, ltb-true, ltb-false, leb-true, leb-false}
+use lib.Dec.{leb, ltb, eqb}
 use lib.ListN.{length, take, drop, getD, length-take, length-drop, length-append, drop-of-length-le}
 use lib.Seq.{take-nil, drop-cons, drop-drop, length-take-le, take-take, sets, length-sets}
 use Rattle.dem.specs.Bytes.{Bytes, Result, found, refused, mapResult, bind, leWrite}
@@ -27,7 +27,7 @@ use Rattle.heads.specs.Heads.{headIn, headOf}
 use Rattle.heads.specs.declared.HeadAt.{HeadAt}
 use Rattle.heads.proofs.HeadLaws.{block-head}
 use Rattle.dem.proofs.ListLaws.{sets-append}
-use Rattle.blocks.specs.Runs.{Told, refusedIn, countedOf, toldOf, messageForm, blockForm, Wrote, put, toldWith, wroteOf, runOf}
+use Rattle.blocks.specs.Runs.{Told, refusedIn, quickUntil, countedOf, toldOf, messageForm, blockForm, Wrote, put, toldWith, wroteOf, runOf}
 
 take-drop : (m n : ℕ) (l : List ℕ) → take m (drop n l) ≡ drop n (take (n + m) l)
 take-drop m zero l = let e : m ≡ 0 + m = omega arith in ap (λ (k : ℕ). take k l) e
@@ -40,6 +40,14 @@ take-drop m (suc n) (x ∷ l) =
 pub front-kept : (m n end : ℕ) (l : List ℕ) → n + m ≤ end → take m (drop n l) ≡ take m (drop n (take end l))
 front-kept m n end l h =
     take-drop m n l ∙ ap (drop n) (sym (take-take (n + m) end l h)) ∙ sym (take-drop m n (take end l))
+
+-- A place before the one to which updates are loaded whole is inside the block, and 18 bytes of the input follow.
+pub before-stop : (len end stop at : ℕ) → stop ≡ quickUntil len end → at < stop → (at < end) × (at + 18 ≤ len)
+before-stop len end stop at e l = go (leb end (len - 17)) refl e
+  where
+    go : (b : Bool) → leb end (len - 17) ≡ b → stop ≡ cond b end (len - 17) → (at < end) × (at + 18 ≤ len)
+    go true q e = omega (arith, leb-true end (len - 17) q)
+    go false q e = omega (arith, leb-false end (len - 17) q)
 
 -- ---- messages
 

@@ -89,3 +89,9 @@ runOf on most room s bs = writeMost blocks (blockForm on) most room s bs
 
 abbrev pub wrote : WrittenAt → List ℕ → Wrote
 wrote r out = record { told = answered (r .read); written = r .written; room = out }
+
+-- ---- updates that are loaded whole
+
+-- From each place of a block before this one, 18 bytes of an input of so many follow: the block's end, or 17 before the input's.
+abbrev pub quickUntil : ℕ → ℕ → ℕ
+quickUntil len end = cond (leb end (len - 17)) end (len - 17)

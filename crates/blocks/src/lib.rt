@@ -12,7 +12,7 @@ ghost use Rattle.dem.specs.Codec.{runMost};
 ghost use Rattle.dem.specs.Recording.{blocks as recordingBlocks};
 ghost use Rattle.parts.specs.Kinds.{contextOf as numbersOf};
 ghost use Rattle.scene.specs.Views.{sceneWith, sceneOf};
-ghost use Rattle.blocks.specs.Runs.{refusedIn, toldOf, answered, stored, put, wroteOf, runOf, wrote};
+ghost use Rattle.blocks.specs.Runs.{refusedIn, quickUntil, toldOf, answered, stored, put, wroteOf, runOf, wrote};
 use heads::HeadAt;
 use message::Message;
 use parts::Context;
@@ -108,15 +108,26 @@ fn store_block(
     }
 }
 
-// The bytes of the longest update.
-const UPDATE_SIZE: usize = 18;
+// The bytes of the longest update behind its first.
+const UPDATE_REST: usize = 17;
+
+// How far updates of a block can be loaded whole, in an input of so many bytes: to the block's end, or 17 before the input's.
+fn quick_until(len: usize, end: usize) -> usize
+    ensures { λ r. ⌜ r ≡ quickUntil len end ⌝ }
+{
+    if len < UPDATE_REST {
+        return 0;
+    }
+    let last = len - UPDATE_REST;
+    if end < last { end } else { last }
+}
 
 // The messages of a block, and slack for the fields of one that are not sent.
 const BODY_SIZE: usize = 8064;
 
 // The blocks from a place to the end, but at most so many; and their normal forms, if they are wanted, into at most so much room from a
 // place of it on. Where the lent room is shorter than that, they are only counted. No copy of the scene is made for a block or a
-// message: its parts are locals.
+// message: its parts are locals. A run of updates has a loop of its own inside the one over messages: it takes fewer instructions.
 pub fn write_blocks(
     d: &[u8],
     from: usize,
@@ -154,10 +165,43 @@ pub fn write_blocks(
         let mut at = start + 16;
         let end = at + h.size;
         let s = &d[..end];
+        let stop = quick_until(d.len(), end);
         let mut size: usize = 0;
         while at < s.len() {
             if rest.ended {
                 return refused_in(given, blocks, start, 11, at, written);
+            }
+            // Updates one after the other, as long as each is good and can be loaded whole.
+            while at < stop {
+                let k = d[at];
+                if k < 128 {
+                    break;
+                }
+                let q = quick::update_head(d, at + 1, k);
+                let i = q.entity;
+                let mask = q.mask;
+                if 449 <= i {
+                    break;
+                }
+                if 32768 <= mask {
+                    break;
+                }
+                let b = baselines[i];
+                let f = quick::update_fields(d, q.next, mask, b);
+                let to = f.next;
+                if end < to {
+                    break;
+                }
+                let record = f.record;
+                let len = to - at;
+                size = normal::put_read_update(on, &mut body, size, d, at, len, mask, i, record, b);
+                records[i] = record;
+                present[i] = true;
+                at = to;
+                messages += 1;
+            }
+            if s.len() <= at {
+                continue;
             }
             let k = s[at];
             let c = Cursor {
@@ -166,37 +210,6 @@ pub fn write_blocks(
             };
             match k {
                 128..=255 => {
-                    if UPDATE_SIZE <= d.len() - at {
-                        let q = quick::update_head(d, at + 1, k);
-                        let i = q.entity;
-                        let mask = q.mask;
-                        if (i < 449) & (mask < 32768) {
-                            let b = baselines[i];
-                            let f = quick::update_fields(d, q.next, mask, b);
-                            let to = f.next;
-                            if to <= end {
-                                let record = f.record;
-                                let len = to - at;
-                                size = normal::put_read_update(
-                                    on,
-                                    &mut body,
-                                    size,
-                                    d,
-                                    at,
-                                    len,
-                                    mask,
-                                    i,
-                                    record,
-                                    b,
-                                );
-                                records[i] = record;
-                                present[i] = true;
-                                at = to;
-                                messages += 1;
-                                continue;
-                            }
-                        }
-                    }
                     let u = masked::read_update(s, c, k);
                     let next = u.cursor;
                     let wrong = next.refusal;

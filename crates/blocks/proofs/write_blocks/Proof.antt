@@ -1,5 +1,5 @@
 -- `blocks::write_blocks` meets its contract: what is told and written of the run from the start is what is told from here on, inside a
--- block by its messages; each turn is one message, and the turns of a block are one block.
+-- block by its messages; each turn is one message, behind a run of updates each of which is one too, and the turns of a block are one block.
 -- Assumes nothing.
 use mathlib.Core.Path.{_≡_, refl, sym, ap, ap₂, _∙_, subst}
 use mathlib.Core.Bool.{Bool, true, false, cond, _&&_}
@@ -11,7 +11,7 @@ use denote.Ref.{now}
 use mir.Syntax.{w64}
 use mir.Val.{Fits}
 use lib.ListN.{length, take, drop, getD, set, replicate, length-take, length-drop}
-use lib.Seq.{length-take-le}
+use lib.Seq.{length-take-le, getD-take}
 use lib.Dec.{ltb}
 use borrow.Author.Tests.{leb-true, ltb-true}
 use mathlib.Core.Logic.{_≢_}
@@ -20,11 +20,11 @@ use Rattle.dem.specs.Bytes.{Bytes, Result, refused, leWrite}
 use Rattle.dem.specs.Kind
 use Rattle.dem.specs.Layout.{Value, number, print}
 use Rattle.dem.specs.Scene.{Scene, Context, contextOf, inRange}
-use Rattle.dem.specs.Message.{Message, isMessage, layout, layoutIn, sendUpdate}
+use Rattle.dem.specs.Message.{Message, isMessage, layoutIn, sendUpdate}
 use Rattle.wire.specs.Cursors.{gotten, parseAt}
 use Rattle.wire.specs.declared.Cursor.{Cursor}
 use Rattle.wire.proofs.Sticky.{here}
-use Rattle.message.specs.Values.{clientValues}
+use Rattle.message.specs.Values.{valuesOf, updateValues, clientValues}
 use Rattle.parts.specs.Kinds.{kindAt}
 use Rattle.dem.specs.Codec.{readAll}
 use Rattle.dem.specs.Recording.{angleLayout, readMessage, messages, readBlock}
@@ -39,8 +39,9 @@ use Rattle.scene.specs.declared.Rest.{Rest}
 use Rattle.quick.proofs.QuickLaws.{QuickUpdate, quick-update}
 use Rattle.normal.specs.Put.{Put}
 use Rattle.normal.specs.Kept.{readOrAnew}
-use Rattle.blocks.specs.Runs.{refusedIn, Wrote, stored, put, wroteOf, runOf}
-use Rattle.blocks.proofs.Turns.{Moved, front-kept, head-refused, head-found, moved-less, moved-short, moved-range, blockBytes, block-length, put-block-there, put-length, closed, closed-short, closed-fits, inside, on-refused, on-moved, on-end, run-over, run-refused, run-opened}
+use Rattle.blocks.specs.Runs.{Told, refusedIn, answered, Wrote, stored, put, wroteOf, runOf, wrote}
+use Rattle.blocks.specs.declared.WrittenAt.{WrittenAt}
+use Rattle.blocks.proofs.Turns.{Moved, front-kept, before-stop, head-refused, head-found, moved-less, moved-short, moved-range, blockBytes, block-length, put-block-there, put-length, closed, closed-short, closed-fits, inside, on-refused, on-moved, on-end, run-over, run-refused, run-opened}
 use Rattle.blocks.proofs.Arms.{held, noBaseline, quick-moved, kept-form, timed, ended-refused, kind-parsed, parsed-refused, parsed-less, update-parsed, update-known, update-moved, time-moved, client-moved, other-parsed, baseline-known, baseline-moved, serverinfo-moved, rest-moved}
 use Rattle.blocks.proofs.write_blocks.Statement.{statement}
 use Rattle.blocks.proofs.write_blocks.Tie as tie
@@ -48,16 +49,17 @@ use Rattle.blocks.proofs.write_blocks.Reads as reads
 use Rattle.blocks.proofs.write_blocks.Lts as lts
 use Rattle.blocks.proofs.block_size.Reads as block-size-reads
 use Rattle.blocks.proofs.context.Reads as context-reads
-use Rattle.blocks.proofs.store_block.Reads as store-block-reads
-use Rattle.normal.proofs.put_client.Reads as put-client-reads
-use Rattle.normal.proofs.put_copy.Reads as put-copy-reads
-use Rattle.normal.proofs.put_other.Reads as put-other-reads
-use Rattle.normal.proofs.put_update.Reads as put-update-reads
-use Rattle.normal.proofs.put_read_update.Reads as put-read-update-reads
+use Rattle.blocks.proofs.quick_until.Reads as quick-until-reads
 use Rattle.blocks.proofs.refused_in.Reads as refused-in-reads
+use Rattle.blocks.proofs.store_block.Reads as store-block-reads
 use Rattle.heads.proofs.read_head.Reads as read-head-reads
 use Rattle.masked.proofs.clientdata_at.Reads as clientdata-at-reads
 use Rattle.masked.proofs.read_update.Reads as read-update-reads
+use Rattle.normal.proofs.put_client.Reads as put-client-reads
+use Rattle.normal.proofs.put_copy.Reads as put-copy-reads
+use Rattle.normal.proofs.put_other.Reads as put-other-reads
+use Rattle.normal.proofs.put_read_update.Reads as put-read-update-reads
+use Rattle.normal.proofs.put_update.Reads as put-update-reads
 use Rattle.plain.proofs.time_at.Reads as time-at-reads
 use Rattle.quick.proofs.update_fields.Reads as update-fields-reads
 use Rattle.quick.proofs.update_head.Reads as update-head-reads
@@ -68,18 +70,35 @@ use Rattle.scene.proofs.fill_client.Reads as fill-client-reads
 use Rattle.scene.proofs.fill_update.Reads as fill-update-reads
 use Rattle.scene.proofs.with_client.Reads as with-client-reads
 
+-- Messages of a block from one place to another: the bounds that are kept, and that what is told and written from the one place on is what is
+-- told and written from the other on.
+abbrev Along : (ℕ → Scene → List ℕ → Result (List Message) → Wrote) → List ℕ → ℕ → ℕ → Scene → List ℕ → ℕ → ℕ → Scene → List ℕ → ℕ → ℕ → Type 0
+Along told s end messages₀ scene₀ form₀ at₀ messages′ scene body at size =
+    (messages′ + (length s - at) ≤ end) × (size + (length s - at) ≤ 8000) × (length body ≡ 8064) × (inRange scene ≡ true)
+    × (told messages₀ scene₀ form₀ (readAll messages scene₀ (drop at₀ s)) ≡ told messages′ scene (take size body) (readAll messages scene (drop at s)))
+
+-- The loop over messages.
 abbrev Inv-loop2 : tie.InvT-loop2
-Inv-loop2 d from most given on room out base baselines₀ records₀ present₀ rest₀ body₀ stores start blocks messages₀ written refusal h at₀ end s size₀ baselines records present rest body messages′ at size =
+Inv-loop2 d from most given on room out base baselines₀ records₀ present₀ rest₀ body₀ stores start blocks messages₀ written refusal h at₀ end s stop size₀ baselines records present rest body messages′ at size =
     let angles = number (h .angle0) ∷ number (h .angle1) ∷ number (h .angle2) ∷ [] in
-    let told = inside (sceneOf given) d on stores room base blocks (most - blocks - 1) start end angles written out in
-    (messages′ + (length s - at) ≤ end) × (size + (length s - at) ≤ 8000) × (length body ≡ 8064) × (inRange (held baselines records present rest) ≡ true)
-    × (told messages₀ (held baselines₀ records₀ present₀ rest₀) [] (readAll messages (held baselines₀ records₀ present₀ rest₀) (drop at₀ s))
-    ≡ told messages′ (held baselines records present rest) (take size body) (readAll messages (held baselines records present rest) (drop at s)))
+    Along (inside (sceneOf given) d on stores room base blocks (most - blocks - 1) start end angles written out) s end
+    messages₀ (held baselines₀ records₀ present₀ rest₀) (take size₀ body₀) at₀ messages′ (held baselines records present rest) body at size
 
 abbrev μ-loop2 : tie.MeasureT-loop2
-μ-loop2 d from most given on room out base baselines₀ records₀ present₀ rest₀ body₀ stores start blocks messages₀ written refusal h at₀ end s size₀ baselines records present rest body messages at size =
+μ-loop2 d from most given on room out base baselines₀ records₀ present₀ rest₀ body₀ stores start blocks messages₀ written refusal h at₀ end s stop size₀ baselines records present rest body messages at size =
     length s - at
 
+-- The loop over updates inside it, which leaves the baselines and the rest as they are and does not go back.
+abbrev Inv-loop3 : tie.InvT-loop3
+Inv-loop3 d from most given on room out base baselines records₀ present₀ rest body₀ stores start blocks messages₀ written refusal h at₀ end s stop size₀ records present body messages at size =
+    Inv-loop2 d from most given on room out base baselines records₀ present₀ rest body₀ stores start blocks messages₀ written refusal h at₀ end s stop size₀ baselines records present rest body messages at size
+    × (at₀ ≤ at)
+
+abbrev μ-loop3 : tie.MeasureT-loop3
+μ-loop3 d from most given on room out base baselines records₀ present₀ rest body₀ stores start blocks messages₀ written refusal h at₀ end s stop size₀ records present body messages at size =
+    length s - at
+
+-- The loop over blocks.
 abbrev Inv-loop : tie.InvT-loop
 Inv-loop d from most given on room out₀ base baselines₀ records₀ present₀ rest₀ body₀ stores start₀ blocks₀ messages₀ written₀ refusal₀ out baselines records present rest body start blocks messages written refusal =
     (refusal ≡ 0) × (start ≤ length d) × (messages ≤ start) × (blocks ≤ most) × (inRange (held baselines records present rest) ≡ true)
@@ -95,39 +114,42 @@ abbrev μ-loop : tie.MeasureT-loop
 -- ---- where a block is to be read
 
 abbrev AtBlock : Type 0
-AtBlock = tie.In-loop Inv-loop2 μ-loop2 Inv-loop μ-loop
+AtBlock = tie.In-loop Inv-loop3 μ-loop3 Inv-loop2 μ-loop2 Inv-loop μ-loop
+
+abbrev begun : AtBlock → tie.Start Inv-loop3 μ-loop3 Inv-loop2 μ-loop2 Inv-loop μ-loop
+begun c = c .before .before .before .before .before .before .before .before
 
 abbrev input : AtBlock → List ℕ
-input c = c .before .before .before .before .before .before .before .before .args .d .now
+input c = begun c .args .d .now
 
 abbrev before : AtBlock → Scene
 before c = held (c .before .loop .baselines) (c .before .loop .records) (c .before .loop .present) (c .before .loop .rest)
 
 abbrev stores : AtBlock → Bool
-stores c = let a = c .before .before .before .before .before .before .before .before .args in stored (a .out .now) (a .base) (a .room)
+stores c = let a = begun c .args in stored (a .out .now) (a .base) (a .room)
 
 -- What is told and written of all blocks.
 abbrev whole : AtBlock → Wrote
 whole c =
-    let a = c .before .before .before .before .before .before .before .before .args in
+    let a = begun c .args in
     wroteOf (sceneOf (a .given)) (length (input c)) (stores c) (a .base) 0 0 0 (a .out .now) (runOf (a .on) (a .most) (a .room) (sceneOf (a .given)) (drop (a .from) (input c)))
 
 bytes : (c : AtBlock) → Bytes (input c)
 bytes c = bytes-of (input c) (λ i. c .before .before .before .before .before .before .before .shared-slice-known .given i .fits)
 
-more : (c : AtBlock) → (c .before .loop .blocks < c .before .before .before .before .before .before .before .before .args .most) × (c .before .loop .start < length (input c))
+more : (c : AtBlock) → (c .before .loop .blocks < begun c .args .most) × (c .before .loop .start < length (input c))
 more c =
-    let t = and-true (ltb (c .before .loop .blocks) (c .before .before .before .before .before .before .before .before .args .most)) (ltb (c .before .loop .start) (length (input c))) (c .loop-test .taken) in
+    let t = and-true (ltb (c .before .loop .blocks) (begun c .args .most)) (ltb (c .before .loop .start) (length (input c))) (c .loop-test .taken) in
     (ltb-true _ _ (t .0), ltb-true _ _ (t .1))
 
 -- What is told from here on, with one block's turn at hand.
 told : (c : AtBlock)
-    → let a = c .before .before .before .before .before .before .before .before .args in
+    → let a = begun c .args in
     let l = c .before .loop in
     whole c ≡ wroteOf (sceneOf (a .given)) (length (input c)) (stores c) (a .base) (l .blocks) (l .messages) (l .written) (l .out)
     (runOf (a .on) (suc (a .most - l .blocks - 1)) (a .room - l .written) (before c) (drop (l .start) (input c)))
 told c =
-    let a = c .before .before .before .before .before .before .before .before .args in
+    let a = begun c .args in
     let l = c .before .loop in
     let n : a .most - l .blocks ≡ suc (a .most - l .blocks - 1) = omega (arith, more c) in
     l .inv .8
@@ -140,195 +162,350 @@ stop-block : (c : AtBlock) (k : ℕ)
     record { told = record { scene = before c; blocks = l .blocks; messages = l .messages; next = l .start; refusal = k; place = l .start }; written = l .written; room = l .out }
     ≡ whole c
 stop-block c k q =
-    let a = c .before .before .before .before .before .before .before .before .args in
+    let a = begun c .args in
     let l = c .before .loop in
     sym (told c ∙ run-refused (sceneOf (a .given)) (input c) (a .on) (stores c) (a .room) (a .base) (l .blocks) (l .messages) (l .written) (l .out) (before c) (l .start) _ (more c .1) k q)
 
 -- ---- inside a block
 
 abbrev Opened : Type 0
-Opened = tie.After-s Inv-loop2 μ-loop2 Inv-loop μ-loop
+Opened = tie.After-s Inv-loop3 μ-loop3 Inv-loop2 μ-loop2 Inv-loop μ-loop
 
 abbrev blockOf : Opened → AtBlock
-blockOf c = c .before .before .before .before .before
+blockOf o = o .before .before .before .before .before
 
 abbrev end : Opened → ℕ
-end c = c .before .before .before .before .before .before .loop .start + 16 + c .before .before .before .read-head .result .size
+end o = blockOf o .before .loop .start + 16 + o .before .before .before .read-head .result .size
 
 abbrev body : Opened → List ℕ
-body c = take (end c) (input (blockOf c))
+body o = take (end o) (input (blockOf o))
 
 abbrev angles : Opened → List Value
-angles c =
-    let h = c .before .before .before .read-head .result in
+angles o =
+    let h = o .before .before .before .read-head .result in
     number (h .angle0) ∷ number (h .angle1) ∷ number (h .angle2) ∷ []
 
 -- What is told and written, from the messages that follow.
 abbrev from-here : Opened → ℕ → Scene → List ℕ → Result (List Message) → Wrote
-from-here c =
-    let a = c .before .before .before .before .before .before .before .before .before .before .before .before .before .args in
-    let l = c .before .before .before .before .before .before .loop in
-    inside (sceneOf (a .given)) (input (blockOf c)) (a .on) (stores (blockOf c)) (a .room) (a .base) (l .blocks) (a .most - l .blocks - 1) (l .start) (end c) (angles c) (l .written) (l .out)
+from-here o =
+    let a = begun (blockOf o) .args in
+    let l = blockOf o .before .loop in
+    inside (sceneOf (a .given)) (input (blockOf o)) (a .on) (stores (blockOf o)) (a .room) (a .base) (l .blocks) (a .most - l .blocks - 1) (l .start) (end o) (angles o) (l .written) (l .out)
 
-within : (c : Opened) → end c ≤ length (input (blockOf c))
-within c = c .before .before .before .read-head .ensures .1 .0 (c .before .before .if2 .left)
+within : (o : Opened) → end o ≤ length (input (blockOf o))
+within o = o .before .before .before .read-head .ensures .1 .0 (o .before .before .if2 .left)
 
-body-bytes : (c : Opened) → Bytes (body c)
-body-bytes c = take-bytes (end c) (input (blockOf c)) (bytes (blockOf c))
+body-long : (o : Opened) → length (body o) ≡ end o
+body-long o = length-take-le (end o) (input (blockOf o)) (within o)
 
-opened : (c : Opened)
-    → whole (blockOf c)
-    ≡ from-here c (c .before .before .before .before .before .before .loop .messages) (before (blockOf c)) [] (readAll messages (before (blockOf c)) (drop (c .before .before .before .before .before .before .loop .start + 16) (body c)))
+body-bytes : (o : Opened) → Bytes (body o)
+body-bytes o = take-bytes (end o) (input (blockOf o)) (bytes (blockOf o))
+
+opened : (o : Opened)
+    → whole (blockOf o)
+    ≡ from-here o (blockOf o .before .loop .messages) (before (blockOf o)) [] (readAll messages (before (blockOf o)) (drop (blockOf o .before .loop .start + 16) (body o)))
 unfolding sceneWith
-opened c =
-    let b = blockOf c in
-    let a = c .before .before .before .before .before .before .before .before .before .before .before .before .before .args in
-    let l = c .before .before .before .before .before .before .loop in
-    let h = c .before .before .before .read-head in
+opened o =
+    let b = blockOf o in
+    let a = begun b .args in
+    let l = b .before .loop in
+    let h = o .before .before .before .read-head in
     told b
     ∙ run-opened (sceneOf (a .given)) (input b) (a .on) (stores b) (a .room) (a .base) (l .blocks) (l .messages) (l .written) (l .out) (before b) (l .start) _ (more b .1)
-    (bytes b) (omega (arith, within c)) (h .result .size) _ (c .before .before .before .before .if1 .left) (head-found (input b) (l .start) (h .result) (h .ensures .0) (c .before .before .if2 .left))
+    (bytes b) (omega (arith, within o)) (h .result .size) _ (o .before .before .before .before .if1 .left) (head-found (input b) (l .start) (h .result) (h .ensures .0) (o .before .before .if2 .left))
 
--- ---- where a message is to be read
+-- The messages so far were read and written, from the block's first on.
+abbrev Reached : Opened → ℕ → Scene → List ℕ → ℕ → ℕ → Type 0
+Reached o = Along (from-here o) (body o) (end o) (blockOf o .before .loop .messages) (before (blockOf o)) [] (blockOf o .before .loop .start + 16)
 
-abbrev AtMessage : Type 0
-AtMessage = tie.In-loop2 Inv-loop2 μ-loop2 Inv-loop μ-loop
+-- What is told of a refusal inside the block, and that an answer says so.
+abbrev refusedAt : Opened → ℕ → ℕ → Told
+refusedAt o k place = refusedIn (sceneOf (begun (blockOf o) .args .given)) (blockOf o .before .loop .blocks) (blockOf o .before .loop .start) k place
 
-abbrev inBlock : AtMessage → Opened
-inBlock c = c .before .before
+abbrev Refuses : Opened → ℕ → ℕ → WrittenAt → Type 0
+Refuses o k place r = (answered (r .read) ≡ refusedAt o k place) × (r .written ≡ blockOf o .before .loop .written)
 
-abbrev scene : AtMessage → Scene
-scene c = held (c .before .loop2 .baselines) (c .before .loop2 .records) (c .before .loop2 .present) (c .before .loop2 .rest)
+abbrev Answered : Opened → WrittenAt → Type 0
+Answered o r = wrote r (blockOf o .before .loop .out) ≡ whole (blockOf o)
 
-abbrev refused-here : AtMessage → ℕ → Wrote
-refused-here c k =
-    let a = c .before .before .before .before .before .before .before .before .before .before .before .before .before .before .before .args in
-    let l = c .before .before .before .before .before .before .before .before .loop in
-    record { told = refusedIn (sceneOf (a .given)) (l .blocks) (l .start) k (c .before .loop2 .at); written = l .written; room = l .out }
+refuse : (o : Opened) (k place : ℕ)
+    → record { told = refusedAt o k place; written = blockOf o .before .loop .written; room = blockOf o .before .loop .out } ≡ whole (blockOf o)
+    → (r : WrittenAt) → Refuses o k place r → Answered o r
+refuse o k place q r e = (λ i. record { told = e .0 i; written = e .1 i; room = blockOf o .before .loop .out }) ∙ q
 
-stop-message : (c : AtMessage) (k : ℕ)
-    → readMessage (scene c) (drop (c .before .loop2 .at) (body (inBlock c))) ≡ refused k (drop (c .before .loop2 .at) (body (inBlock c)))
-    → refused-here c k ≡ whole (blockOf (inBlock c))
-stop-message c k q =
-    let o = inBlock c in
-    let a = c .before .before .before .before .before .before .before .before .before .before .before .before .before .before .before .args in
-    let l = c .before .before .before .before .before .before .before .before .loop in
-    let m = c .before .loop2 in
-    sym (opened o ∙ m .inv .4
-    ∙ on-refused (sceneOf (a .given)) (input (blockOf o)) (a .on) (stores (blockOf o)) (a .room) (a .base) (l .blocks) _ (l .start) (end o) (angles o) (l .written) (l .out) (bytes (blockOf o)) (within o)
-    (m .messages) (scene c) (take (m .size) (m .body)) (m .at) k (c .loop2-test .taken) q)
+refuse-message : (o : Opened) (count : ℕ) (t : Scene) (filled : List ℕ) (at size : ℕ) → Reached o count t filled at size → at < length (body o) → (k : ℕ)
+    → readMessage t (drop at (body o)) ≡ refused k (drop at (body o)) → (r : WrittenAt) → Refuses o k at r → Answered o r
+refuse-message o count t filled at size i l k q =
+    let a = begun (blockOf o) .args in
+    let b = blockOf o .before .loop in
+    refuse o k at
+    (sym (opened o ∙ i .4
+    ∙ on-refused (sceneOf (a .given)) (input (blockOf o)) (a .on) (stores (blockOf o)) (a .room) (a .base) (b .blocks) _ (b .start) (end o) (angles o) (b .written) (b .out) (bytes (blockOf o)) (within o)
+    count t (take size filled) at k l q))
 
--- ---- what the readers of messages answered
+-- ---- a place where a message is to be read
 
-abbrev Parsed : AtMessage → List Value → Cursor → Type 0
-Parsed c vs k = gotten (body (inBlock c)) vs k ≡ parseAt (body (inBlock c)) (here (c .before .loop2 .at)) (layoutIn (scene c))
+pub record Place (o : Opened) : Type 0 where
+  baselines : List Baseline
+  records : List Record
+  present : List Bool
+  rest : Rest
+  filled : List ℕ
+  count : ℕ
+  at : ℕ
+  size : ℕ
+  reached : Reached o count (held baselines records present rest) filled at size
+  inside : at < length (body o)
+  going : rest .ended ≡ false
 
-stop-parsed : (c : AtMessage) → c .before .loop2 .rest .ended ≡ false → (vs : List Value) (k : Cursor) → Parsed c vs k → (k .refusal ≡ 0 → ⊥)
-    → refused-here c (k .refusal) ≡ whole (blockOf (inBlock c))
-stop-parsed c g vs k q z =
-    stop-message c (k .refusal)
-    (parsed-refused (body (inBlock c)) (c .before .loop2 .at) (c .loop2-test .taken) (c .before .loop2 .baselines) (c .before .loop2 .records) (c .before .loop2 .present)
-    (c .before .loop2 .rest) g vs k q z)
+abbrev scene : {o : Opened} → Place o → Scene
+scene p = held (p .baselines) (p .records) (p .present) (p .rest)
 
--- A message of kind n.
-kind-here : (c : AtMessage) → c .before .loop2 .rest .ended ≡ false → (n : ℕ) (x : Context) (vs : List Value) (k : Cursor) → n ≡ getD (body (inBlock c)) (c .before .loop2 .at) 0
-    → isMessage n ≡ true → n ≢ Kind.static → x ≡ contextOf (scene c) → gotten (body (inBlock c)) vs k ≡ kindAt (body (inBlock c)) (here (c .before .loop2 .at + 1)) x n → Parsed c vs k
-kind-here c g =
-    kind-parsed (body (inBlock c)) (c .before .loop2 .at) (c .loop2-test .taken) (c .before .loop2 .baselines) (c .before .loop2 .records) (c .before .loop2 .present)
-    (c .before .loop2 .rest) g
-
-time-parsed : (c : tie.After-time-at Inv-loop2 μ-loop2 Inv-loop μ-loop)
-    → Parsed (c .before .before .before .before .before) (number 7 ∷ number (c .time-at .result .value) ∷ []) (c .time-at .result .cursor)
-time-parsed c =
-    kind-here (c .before .before .before .before .before) (c .before .before .before .before .if3 .left) 7 _ _ (c .time-at .result .cursor) (sym (c .before .before .match .keys1)) refl (λ z. omega arith)
-    (c .before .context .ensures _ _ _) (c .time-at .ensures)
-
-client-parsed : (c : tie.After-clientdata-at Inv-loop2 μ-loop2 Inv-loop μ-loop)
-    → Parsed (c .before .before .before .before) (number 15 ∷ clientValues (c .clientdata-at .result .«data»)) (c .clientdata-at .result .cursor)
-client-parsed c =
-    kind-here (c .before .before .before .before) (c .before .before .before .if3 .left) 15 (contextOf (scene (c .before .before .before .before))) _ (c .clientdata-at .result .cursor) (sym (c .before .match .keys2)) refl (λ z. omega arith)
-    refl (c .clientdata-at .ensures (contextOf (scene (c .before .before .before .before))))
-
--- The entity of a baseline, and of an update, is known.
-baseline-index : (c : tie.After-message Inv-loop2 μ-loop2 Inv-loop μ-loop) → c .message .given .0 .0 .0 < 449
-baseline-index c =
-    let r = c .before .before .before .before .before .before .before in
-    let m = c .before .before .before .before .before .before .before .before .before .before .before .before .before in
-    let k = m .before .loop2 in
-    baseline-known (body (inBlock m)) (k .at) (m .loop2-test .taken) (k .baselines) (k .records) (k .present) (k .rest) (c .before .before .before .before .before .before .before .before .before .before .before .before .if3 .left) (body-bytes (inBlock m)) _
-    (r .before .context2 .ensures _ _ _) (r .read-message .result .message) (r .read-message .result .cursor) (r .read-message .ensures) (c .before .before .before .before .before .if7 .left) _ _ _
-    (c .message .given .1)
-
-update-index : (c : tie.Else11 Inv-loop2 μ-loop2 Inv-loop μ-loop) → c .before .before .read-update .result .update .entity .0 < 449
-update-index c =
-    let r = c .before .before in
-    let m = c .before .before .before .before .before .before .before .before in
-    let k = m .before .loop2 in
-    update-known (body (inBlock m)) (k .at) (m .loop2-test .taken) (k .baselines) (k .records) (k .present) (k .rest) (c .before .before .before .before .before .before .before .if3 .left) (body-bytes (inBlock m)) _ refl (c .before .before .before .before .if6 .left)
-    (r .read-update .result .update) (r .read-update .result .cursor) (r .read-update .ensures) (c .if11 .left)
-
-counts : (c : AtMessage) → Fits w64 (c .before .loop2 .messages + 1)
-counts c = omega (arith, c .before .loop2 .inv .0, c .loop2-test .taken, within (inBlock c), length-take-le (end (inBlock c)) (input (blockOf (inBlock c))) (within (inBlock c)))
-
-place-fits : (c : AtMessage) → Fits w64 (c .before .loop2 .at + 1)
-place-fits c = omega (arith, c .loop2-test .taken, within (inBlock c), length-take-le (end (inBlock c)) (input (blockOf (inBlock c))) (within (inBlock c)))
-
--- A message takes a byte or more, and its bytes as they were read fit into the scratch.
-parsed-on : (c : AtMessage) → c .before .loop2 .rest .ended ≡ false → (vs : List Value) (k : Cursor) → Parsed c vs k → k .refusal ≡ 0
-    → length (body (inBlock c)) - k .at < length (body (inBlock c)) - c .before .loop2 .at
-parsed-on c g vs k q z =
-    parsed-less (body (inBlock c)) (c .before .loop2 .at) (c .loop2-test .taken) (c .before .loop2 .baselines) (c .before .loop2 .records) (c .before .loop2 .present)
-    (c .before .loop2 .rest) g vs k q (body-bytes (inBlock c)) z
-
-copy-fits : (c : AtMessage) (to : ℕ) → length (body (inBlock c)) - to < length (body (inBlock c)) - c .before .loop2 .at
-    → let m = c .before .loop2 in
-    (m .at ≤ to) × (m .size + length (take (to - m .at) (drop (m .at) (body (inBlock c)))) ≤ length (m .body))
-copy-fits c to l =
-    let m = c .before .loop2 in
-    (omega (arith, l), omega (arith, m .inv .1, m .inv .2, length-take (to - m .at) (drop (m .at) (body (inBlock c))), length-drop (m .at) (body (inBlock c))))
-
--- ---- one message on
+-- What a reader of messages answered there.
+abbrev Parsed : {o : Opened} → Place o → List Value → Cursor → Type 0
+Parsed {o} p vs k = gotten (body o) vs k ≡ parseAt (body o) (here (p .at)) (layoutIn (scene p))
 
 -- A message was read, and its normal form put behind those before it.
-pub record Step (c : AtMessage) (t : Scene) (to : ℕ) (filled : List ℕ) (size : ℕ) : Type 0 where
+pub record Step {o : Opened} (p : Place o) (t : Scene) (to : ℕ) (filled : List ℕ) (size : ℕ) : Type 0 where
   form : List ℕ
-  moved : Moved (body (inBlock c)) (scene c) (c .before .loop2 .at) t to form
-  put : Put (c .before .loop2 .body) filled (c .before .loop2 .size) size (cond (c .before .before .before .before .before .before .before .before .before .before .before .before .before .before .before .args .on) form [])
+  moved : Moved (body o) (scene p) (p .at) t to form
+  put : Put (p .filled) filled (p .size) size (cond (begun (blockOf o) .args .on) form [])
 
-step-less : (c : AtMessage) (t : Scene) (to : ℕ) (filled : List ℕ) (size : ℕ) → Step c t to filled size
-    → length (body (inBlock c)) - to < length (body (inBlock c)) - c .before .loop2 .at
-step-less c t to filled size s = moved-less (body (inBlock c)) (body-bytes (inBlock c)) (scene c) (c .before .loop2 .at) t to (s .form) (s .moved)
+module _ {o : Opened} (p : Place o) where
+  counts : Fits w64 (p .count + 1)
+  counts = omega (arith, p .reached .0, p .inside, within o, body-long o)
 
-step-again : (c : AtMessage) (t : Scene) (to : ℕ) (filled : List ℕ) (size : ℕ) → Step c t to filled size
-    → let o = inBlock c in
-    let m = c .before .loop2 in
-    (m .messages + 1 + (length (body o) - to) ≤ end o) × (size + (length (body o) - to) ≤ 8000) × (length filled ≡ 8064) × (inRange t ≡ true)
-    × (from-here o (c .before .before .before .before .before .before .before .before .loop .messages) (before (blockOf o)) [] (readAll messages (before (blockOf o)) (drop (c .before .before .before .before .before .before .before .before .loop .start + 16) (body o)))
-    ≡ from-here o (m .messages + 1) t (take size filled) (readAll messages t (drop to (body o))))
-step-again c t to filled size s =
-    let o = inBlock c in
-    let a = c .before .before .before .before .before .before .before .before .before .before .before .before .before .before .before .args in
-    let l = c .before .before .before .before .before .before .before .before .loop in
-    let m = c .before .loop2 in (
-      omega (arith, m .inv .0, step-less c t to filled size s),
-      omega (arith, m .inv .1, s .put .2, moved-short (body o) (body-bytes o) (scene c) (m .at) t to (s .form) (s .moved) (a .on)),
-      s .put .1 ∙ m .inv .2,
-      moved-range (body o) (body-bytes o) (scene c) (m .at) t to (s .form) (s .moved) (m .inv .3),
-      m .inv .4 ∙ on-moved (sceneOf (a .given)) (input (blockOf o)) (a .on) (stores (blockOf o)) (a .room) (a .base) (l .blocks) _ (l .start) (end o) (angles o) (l .written) (l .out) (bytes (blockOf o)) (within o)
-          (m .messages) (scene c) (take (m .size) (m .body)) (m .at) t to (s .form) (c .loop2-test .taken) (s .moved)
-          ∙ ap (λ (x : List ℕ). from-here o (m .messages + 1) t x (readAll messages t (drop to (body o)))) (sym (s .put .0)),
-    )
+  place-fits : Fits w64 (p .at + 1)
+  place-fits = omega (arith, p .inside, within o, body-long o)
+
+  room-for : (n : ℕ) → n ≤ 64 → p .size + n ≤ length (p .filled)
+  room-for n l = omega (arith, p .reached .1, p .reached .2, l)
+
+  module _ (vs : List Value) (k : Cursor) (q : Parsed p vs k) where
+    refuse-parsed : (k .refusal ≡ 0 → ⊥) → (r : WrittenAt) → Refuses o (k .refusal) (p .at) r → Answered o r
+    refuse-parsed z =
+        refuse-message o (p .count) (scene p) (p .filled) (p .at) (p .size) (p .reached) (p .inside) (k .refusal)
+        (parsed-refused (body o) (p .at) (p .inside) (p .baselines) (p .records) (p .present) (p .rest) (p .going) vs k q z)
+
+    -- It takes a byte or more, and its bytes as they were read fit into the scratch.
+    copy-fits : k .refusal ≡ 0 → (p .at ≤ k .at) × (p .size + length (take (k .at - p .at) (drop (p .at) (body o))) ≤ length (p .filled))
+    copy-fits z =
+        let l = parsed-less (body o) (p .at) (p .inside) (p .baselines) (p .records) (p .present) (p .rest) (p .going) vs k q (body-bytes o) z in
+        (omega (arith, l), omega (arith, l, p .reached .1, p .reached .2, length-take (k .at - p .at) (drop (p .at) (body o)), length-drop (p .at) (body o)))
+
+  -- A message of kind n.
+  kind-here : (n : ℕ) (x : Context) (vs : List Value) (k : Cursor) → n ≡ getD (body o) (p .at) 0
+      → isMessage n ≡ true → n ≢ Kind.static → x ≡ contextOf (scene p) → gotten (body o) vs k ≡ kindAt (body o) (here (p .at + 1)) x n → Parsed p vs k
+  kind-here = kind-parsed (body o) (p .at) (p .inside) (p .baselines) (p .records) (p .present) (p .rest) (p .going)
+
+  module _ (t : Scene) (to : ℕ) (filled : List ℕ) (size : ℕ) (s : Step p t to filled size) where
+    step-less : length (body o) - to < length (body o) - p .at
+    step-less = moved-less (body o) (body-bytes o) (scene p) (p .at) t to (s .form) (s .moved)
+
+    -- One message on.
+    step-on : Along (from-here o) (body o) (end o) (p .count) (scene p) (take (p .size) (p .filled)) (p .at) (p .count + 1) t filled to size
+    step-on =
+        let a = begun (blockOf o) .args in
+        let l = blockOf o .before .loop in (
+          omega (arith, p .reached .0, step-less),
+          omega (arith, p .reached .1, s .put .2, moved-short (body o) (body-bytes o) (scene p) (p .at) t to (s .form) (s .moved) (a .on)),
+          s .put .1 ∙ p .reached .2,
+          moved-range (body o) (body-bytes o) (scene p) (p .at) t to (s .form) (s .moved) (p .reached .3),
+          on-moved (sceneOf (a .given)) (input (blockOf o)) (a .on) (stores (blockOf o)) (a .room) (a .base) (l .blocks) _ (l .start) (end o) (angles o) (l .written) (l .out) (bytes (blockOf o)) (within o)
+              (p .count) (scene p) (take (p .size) (p .filled)) (p .at) t to (s .form) (p .inside) (s .moved)
+              ∙ ap (λ (x : List ℕ). from-here o (p .count + 1) t x (readAll messages t (drop to (body o)))) (sym (s .put .0)),
+        )
+
+-- ---- the loop over updates
+
+abbrev AtRun : Type 0
+AtRun = tie.At-loop3 Inv-loop3 μ-loop3 Inv-loop2 μ-loop2 Inv-loop μ-loop
+
+reached : (c : AtRun)
+    → Reached (c .before .before .before .before .before) (c .loop3 .messages) (held (c .before .before .before .loop2 .baselines) (c .loop3 .records) (c .loop3 .present) (c .before .before .before .loop2 .rest)) (c .loop3 .body) (c .loop3 .at) (c .loop3 .size)
+reached c =
+    let i = c .loop3 .inv .0 in
+    (i .0, i .1, i .2, i .3, c .before .before .before .loop2 .inv .4 ∙ i .4)
+
+abbrev placeAt : (c : AtRun) → c .loop3 .at < length (body (c .before .before .before .before .before)) → Place (c .before .before .before .before .before)
+placeAt c l =
+    record {
+      baselines = c .before .before .before .loop2 .baselines;
+      records = c .loop3 .records;
+      present = c .loop3 .present;
+      rest = c .before .before .before .loop2 .rest;
+      filled = c .loop3 .body;
+      count = c .loop3 .messages;
+      at = c .loop3 .at;
+      size = c .loop3 .size;
+      reached = reached c;
+      inside = l;
+      going = c .before .if3 .left;
+    }
+
+-- ---- an update that is read at once
+
+abbrev AtUpdate : Type 0
+AtUpdate = tie.In-loop3 Inv-loop3 μ-loop3 Inv-loop2 μ-loop2 Inv-loop μ-loop
+
+abbrev ran : AtUpdate → Opened
+ran c = c .before .before .before .before .before .before
+
+loaded : (c : AtUpdate) → (c .before .loop3 .at < end (ran c)) × (c .before .loop3 .at + 18 ≤ length (input (blockOf (ran c))))
+loaded c = before-stop (length (input (blockOf (ran c)))) (end (ran c)) _ (c .before .loop3 .at) (c .before .before .before .before .before .quick-until .ensures) (c .loop3-test .taken)
+
+in-body : (c : AtUpdate) → c .before .loop3 .at < length (body (ran c))
+in-body c = omega (arith, loaded c, body-long (ran c))
+
+abbrev update : (c : AtUpdate) → Place (ran c)
+update c = placeAt (c .before) (in-body c)
+
+abbrev kind : AtUpdate → ℕ
+kind c = getD (input (blockOf (ran c))) (c .before .loop3 .at) 0
+
+kind-there : (c : AtUpdate) → kind c ≡ getD (body (ran c)) (c .before .loop3 .at) 0
+kind-there c = sym (getD-take (end (ran c)) (input (blockOf (ran c))) (c .before .loop3 .at) 0 (loaded c .0))
+
+-- Its head and its fields were read, and it ends inside the block.
+abbrev Found : Type 0
+Found = tie.After-record Inv-loop3 μ-loop3 Inv-loop2 μ-loop2 Inv-loop μ-loop
+
+abbrev updateOf : Found → AtUpdate
+updateOf c = c .before .before .before .before .before .before .before .before .before
+
+small : (c : Found) → kind (updateOf c) < 256
+small c = c .before .before .before .before .before .before .before .before .shared-slice-known2 .given (updateOf c .before .loop3 .at) .fits
+
+abbrev entity : Found → ℕ
+entity c = c .before .before .before .before .before .before .update-head .result .entity
+
+abbrev to : Found → ℕ
+to c = c .before .before .update-fields .result .next
+
+abbrev updated : Found → Scene
+updated c =
+    let p = update (updateOf c) in
+    held (p .baselines) (set (p .records) (entity c) (c .before .before .update-fields .result .record)) (set (p .present) (entity c) true) (p .rest)
+
+quick-here : (c : Found)
+    → let p = update (updateOf c) in
+    let o = ran (updateOf c) in
+    QuickUpdate (input (blockOf o)) (end o) (p .at + 1) (kind (updateOf c)) (getD (p .baselines) (entity c) noBaseline) (c .before .before .before .before .before .before .update-head .result) (c .before .before .update-fields .result)
+quick-here c =
+    let p = update (updateOf c) in
+    let o = ran (updateOf c) in
+    let h = c .before .before .before .before .before .before .update-head in
+    let f = c .before .before .update-fields in
+    quick-update (input (blockOf o)) (end o) (p .at + 1) (kind (updateOf c)) (getD (p .baselines) (entity c) noBaseline) (within o) (small c) (h .result) (f .result) (h .ensures .0) (f .ensures .0) (f .ensures .1) (c .before .before .before .before .if6 .left) (c .before .before .before .before .before .if5 .left) (c .before .if7 .left)
+
+abbrev formAt : Found → List ℕ
+formAt c =
+    let p = update (updateOf c) in
+    print (layoutIn (scene p)) (sendUpdate (baselineNumbers (getD (p .baselines) (entity c) noBaseline)) (number (entity c) ∷ recordValues (c .before .before .update-fields .result .record)))
+
+at-once : (c : Found) → Moved (body (ran (updateOf c))) (scene (update (updateOf c))) (updateOf c .before .loop3 .at) (updated c) (to c) (formAt c)
+at-once c =
+    let p = update (updateOf c) in
+    let q = quick-here c in
+    quick-moved (body (ran (updateOf c))) (p .at) (p .inside) (p .baselines) (p .records) (p .present) (p .rest) (p .going) (kind (updateOf c)) (kind-there (updateOf c)) (c .before .before .before .before .before .before .before .if4 .left)
+    (q .high) (entity c) (q .sent) (to c) (c .before .before .update-fields .result .record) (q .parsed) (q .filled)
+
+moves : (c : Found) → updateOf c .before .loop3 .at < to c
+moves c =
+    let o = ran (updateOf c) in
+    omega (arith, moved-less (body o) (body-bytes o) (scene (update (updateOf c))) (updateOf c .before .loop3 .at) (updated c) (to c) (formAt c) (at-once c))
+
+-- The update's bytes are the same in the input and in the block.
+front-here : (c : Found)
+    → let o = ran (updateOf c) in
+    let at = updateOf c .before .loop3 .at in
+    take (to c - at) (drop at (input (blockOf o))) ≡ take (to c - at) (drop at (body o))
+front-here c =
+    let o = ran (updateOf c) in
+    let at = updateOf c .before .loop3 .at in
+    front-kept (to c - at) at (end o) (input (blockOf o)) (omega (arith, moves c, c .before .if7 .left))
+
+step-once : (c : tie.After-put-read-update Inv-loop3 μ-loop3 Inv-loop2 μ-loop2 Inv-loop μ-loop)
+    → let r = c .before .before in
+    let p = update (updateOf r) in
+    (filled : List ℕ) → ((x : Context) → Put (p .filled) filled (p .size) (c .put-read-update .result) (cond (begun (blockOf (ran (updateOf r))) .args .on) (readOrAnew x (baselineNumbers (getD (p .baselines) (entity r) noBaseline)) (number (entity r) ∷ recordValues (r .before .before .update-fields .result .record)) (r .before .before .before .before .before .before .update-head .result .mask) (to r - p .at) (drop (p .at) (input (blockOf (ran (updateOf r)))))) []))
+    → Step p (updated r) (to r) filled (c .put-read-update .result)
+step-once c filled w =
+    let r = c .before .before in
+    let p = update (updateOf r) in
+    let o = ran (updateOf r) in
+    let q = quick-here r in
+    let same = kept-form (body o) (p .at) (p .inside) (p .baselines) (p .records) (p .present) (p .rest) (p .going) (kind (updateOf r)) (kind-there (updateOf r)) (r .before .before .before .before .before .before .before .if4 .left)
+    (q .high) (entity r) (q .sent) (to r) (r .before .before .update-fields .result .record) (q .parsed) (q .filled) (body-bytes o) (small r) (r .before .before .before .before .before .before .update-head .result .mask) (to r - p .at) (drop (p .at) (input (blockOf o))) (q .masked) (front-here r) in
+    record {
+      form = formAt r;
+      moved = at-once r;
+      put = subst (λ (bs : List ℕ). Put (p .filled) filled (p .size) (c .put-read-update .result) (cond (begun (blockOf o) .args .on) bs [])) same (w (contextOf (scene p)));
+    }
+
+-- ---- where another message is to be read
+
+abbrev AtMessage : Type 0
+AtMessage = tie.Else8 Inv-loop3 μ-loop3 Inv-loop2 μ-loop2 Inv-loop μ-loop
+
+abbrev inBlock : AtMessage → Opened
+inBlock c = c .before .before .before .before .before .before .before
+
+abbrev message : (c : AtMessage) → Place (inBlock c)
+message c = placeAt (c .before .before) (c .if8 .left)
+
+time-parsed : (c : tie.After-time-at Inv-loop3 μ-loop3 Inv-loop2 μ-loop2 Inv-loop μ-loop) → Parsed (message (c .before .before .before .before)) (number 7 ∷ number (c .time-at .result .value) ∷ []) (c .time-at .result .cursor)
+time-parsed c =
+    kind-here (message (c .before .before .before .before)) 7 _ _ (c .time-at .result .cursor) (sym (c .before .before .match .keys1)) refl (λ z. omega arith)
+    (c .before .context .ensures _ _ _) (c .time-at .ensures)
+
+client-parsed : (c : tie.After-clientdata-at Inv-loop3 μ-loop3 Inv-loop2 μ-loop2 Inv-loop μ-loop) → Parsed (message (c .before .before .before)) (number 15 ∷ clientValues (c .clientdata-at .result .«data»)) (c .clientdata-at .result .cursor)
+client-parsed c =
+    let x = contextOf (scene (message (c .before .before .before))) in
+    kind-here (message (c .before .before .before)) 15 x _ (c .clientdata-at .result .cursor) (sym (c .before .match .keys2)) refl (λ z. omega arith) refl (c .clientdata-at .ensures x)
+
+other-read : (c : tie.After-read-message Inv-loop3 μ-loop3 Inv-loop2 μ-loop2 Inv-loop μ-loop) → Parsed (message (c .before .before .before .before .before)) (valuesOf (body (inBlock (c .before .before .before .before .before))) (c .read-message .result .message)) (c .read-message .result .cursor)
+other-read c =
+    let p = message (c .before .before .before .before .before) in
+    let o = inBlock (c .before .before .before .before .before) in
+    other-parsed (body o) (p .at) (p .inside) (p .baselines) (p .records) (p .present) (p .rest) (p .going) (body-bytes o) _
+    (c .before .context2 .ensures _ _ _) (c .read-message .result .message) (c .read-message .result .cursor) (c .read-message .ensures)
+
+update-read : (c : tie.After-read-update Inv-loop3 μ-loop3 Inv-loop2 μ-loop2 Inv-loop μ-loop) → Parsed (message (c .before .before .before .before)) (updateValues (c .read-update .result .update)) (c .read-update .result .cursor)
+update-read c =
+    let p = message (c .before .before .before .before) in
+    let o = inBlock (c .before .before .before .before) in
+    update-parsed (body o) (p .at) (p .inside) (p .baselines) (p .records) (p .present) (p .rest) (p .going) (body-bytes o) _ refl (c .before .if11 .left)
+    (c .read-update .result .update) (c .read-update .result .cursor) (c .read-update .ensures)
+
+-- The entity of a baseline, and of an update, is known.
+baseline-index : (c : tie.After-message Inv-loop3 μ-loop3 Inv-loop2 μ-loop2 Inv-loop μ-loop) → c .message .given .0 .0 .0 < 449
+baseline-index c =
+    let r = c .before .before .before .before .before .before .before in
+    let o = inBlock (r .before .before .before .before .before) in
+    let p = message (r .before .before .before .before .before) in
+    baseline-known (body o) (p .at) (p .inside) (p .baselines) (p .records) (p .present) (p .rest) (p .going) (body-bytes o) _
+    (r .before .context2 .ensures _ _ _) (r .read-message .result .message) (r .read-message .result .cursor) (r .read-message .ensures) (c .before .before .before .before .before .if12 .left) _ _ _
+    (c .message .given .1)
+
+update-index : (c : tie.Else13 Inv-loop3 μ-loop3 Inv-loop2 μ-loop2 Inv-loop μ-loop) → c .before .before .read-update .result .update .entity .0 < 449
+update-index c =
+    let r = c .before .before in
+    let o = inBlock (r .before .before .before .before) in
+    let p = message (r .before .before .before .before) in
+    update-known (body o) (p .at) (p .inside) (p .baselines) (p .records) (p .present) (p .rest) (p .going) (body-bytes o) _ refl (r .before .if11 .left)
+    (r .read-update .result .update) (r .read-update .result .cursor) (r .read-update .ensures) (c .if13 .left)
 
 -- ---- where the arms meet
 
 abbrev AtNext : Type 0
-AtNext = tie.At-match-came Inv-loop2 μ-loop2 Inv-loop μ-loop
+AtNext = tie.At-match-came Inv-loop3 μ-loop3 Inv-loop2 μ-loop2 Inv-loop μ-loop
 
 abbrev next : AtNext → Scene
 next c = held (c .match .baselines) (c .match .records) (c .match .present) (c .match .rest)
 
 abbrev Arrived : AtNext → Scene → ℕ → List ℕ → ℕ → Type 0
-Arrived c = Step (c .before .before .before)
+Arrived c = Step (message (c .before .before))
 
 arrived : (c : AtNext) (b : List Baseline) (e : List Record) (p : List Bool) (x : Rest) (filled : List ℕ) (to size : ℕ) → c .match .baselines ≡ b → c .match .records ≡ e
     → c .match .present ≡ p → c .match .rest ≡ x → c .match .body ≡ filled → c .match .at ≡ to → c .match .size ≡ size
@@ -344,13 +521,12 @@ neither =
 
 came : (c : AtNext) → Arrived c (next c) (c .match .at) (c .match .body) (c .match .size)
 came c =
-    let m = c .before .before .before in
-    let s = body (inBlock m) in
-    let k = m .before .loop2 in
-    let l = m .loop2-test .taken in
-    let g = c .before .before .if3 .left in
-    let h = body-bytes (inBlock m) in
-    let x = contextOf (scene m) in
+    let s = body (inBlock (c .before .before)) in
+    let k = message (c .before .before) in
+    let l = k .inside in
+    let g = k .going in
+    let h = body-bytes (inBlock (c .before .before)) in
+    let x = contextOf (scene k) in
     ⊎-elim
     (λ w. arrived c (k .baselines) (k .records) (replicate 449 false) (timed (k .rest) (w .2 .result .value)) _ (w .2 .result .cursor .at) (w .6 .result) (w .8) (w .9) (w .10) (w .11) (w .12) (w .13) (w .14)
     (record {
@@ -391,114 +567,28 @@ came c =
           (w .3 .ensures) (w .5 .left) (λ z. w .0 .rest .1 (sym z)) (w .1 .taken) neither (w .9 .keys3) tt tt (λ z. w .0 .rest .0 .1 (sym z)) (w .10 .result) (w .10 .ensures);
       put = w .7 .ensures x;
     }))
-    (λ w. arrived c (k .baselines) (set (k .records) (w .3 .result .update .entity .0) (w .10 .result)) (set (k .present) (w .3 .result .update .entity .0) true) (k .rest) _ (w .3 .result .cursor .at) (w .12 .result) (w .14) (w .15) (w .16) (w .17) (w .18) (w .19) (w .20)
+    (λ w. arrived c (k .baselines) (set (k .records) (w .2 .result .update .entity .0) (w .9 .result)) (set (k .present) (w .2 .result .update .entity .0) true) (k .rest) _ (w .2 .result .cursor .at) (w .11 .result) (w .13) (w .14) (w .15) (w .16) (w .17) (w .18) (w .19)
     (record {
       form = _;
-      moved = update-moved s (k .at) l (k .baselines) (k .records) (k .present) (k .rest) g h _ refl (w .1 .left) (w .3 .result .update) (w .3 .result .cursor)
-          (w .3 .ensures) (w .5 .left) (w .10 .result) (w .10 .ensures);
-      put = w .12 .ensures x;
+      moved = update-moved s (k .at) l (k .baselines) (k .records) (k .present) (k .rest) g h _ refl (w .1 .left) (w .2 .result .update) (w .2 .result .cursor)
+          (w .2 .ensures) (w .4 .left) (w .9 .result) (w .9 .ensures);
+      put = w .11 .ensures x;
     }))))))
     (c .match .came)
-
--- ---- an update that is read at once
-
-here-inside : (c : AtMessage) → c .before .loop2 .at < length (input (blockOf (inBlock c)))
-here-inside c = omega (arith, c .loop2-test .taken, within (inBlock c), length-take-le (end (inBlock c)) (input (blockOf (inBlock c))) (within (inBlock c)))
-
-known : (c : tie.Then9 Inv-loop2 μ-loop2 Inv-loop μ-loop)
-    → (c .before .update-head .result .entity < 449) × (c .before .update-head .result .mask < 32768)
-known c =
-    let t = and-true (ltb (c .before .update-head .result .entity) 449) (ltb (c .before .update-head .result .mask) 32768) (c .if9 .taken) in
-    (ltb-true _ _ (t .0), ltb-true _ _ (t .1))
-
-small-here : (c : tie.After-record Inv-loop2 μ-loop2 Inv-loop μ-loop) → getD (body (inBlock (c .before .before .before .before .before .before .before .before .before .before .before))) (c .before .before .before .before .before .before .before .before .before .before .before .before .loop2 .at) 0 < 256
-small-here c = c .before .before .before .before .before .before .before .before .before .shared-slice-known2 .given (c .before .before .before .before .before .before .before .before .before .before .before .before .loop2 .at) .fits
-
-abbrev Found : tie.After-record Inv-loop2 μ-loop2 Inv-loop μ-loop → ℕ × Scene
-Found c =
-    let k = c .before .before .before .before .before .before .before .before .before .before .before .before .loop2 in
-    let i = c .before .before .before .before .before .update-head .result .entity in
-    let f = c .before .before .update-fields .result in
-    (f .next, held (k .baselines) (set (k .records) i (f .record)) (set (k .present) i true) (k .rest))
-
-quick-here : (c : tie.After-record Inv-loop2 μ-loop2 Inv-loop μ-loop)
-    → let m = c .before .before .before .before .before .before .before .before .before .before .before in
-    let k = m .before .loop2 in
-    let o = inBlock m in
-    let h = c .before .before .before .before .before .update-head .result in
-    QuickUpdate (input (blockOf o)) (end o) (k .at + 1) (getD (body o) (k .at) 0) (getD (k .baselines) (h .entity) noBaseline) h (c .before .before .update-fields .result)
-quick-here c =
-    let m = c .before .before .before .before .before .before .before .before .before .before .before in
-    let o = inBlock m in
-    let k = m .before .loop2 in
-    let h = c .before .before .before .before .before .update-head in
-    let f = c .before .before .update-fields in
-    let in? = known (c .before .before .before .before) in
-    quick-update (input (blockOf o)) (end o) (k .at + 1) (getD (body o) (k .at) 0) (getD (k .baselines) (h .result .entity) noBaseline) (within o) (small-here c) (h .result) (f .result) (h .ensures .0) (f .ensures .0) (f .ensures .1) (in? .1) (in? .0) (c .before .if10 .taken)
-
-abbrev formAt : (c : tie.After-record Inv-loop2 μ-loop2 Inv-loop μ-loop) → List ℕ
-formAt c =
-    let k = c .before .before .before .before .before .before .before .before .before .before .before .before .loop2 in
-    let i = c .before .before .before .before .before .update-head .result .entity in
-    print (layoutIn (scene (c .before .before .before .before .before .before .before .before .before .before .before))) (sendUpdate (baselineNumbers (getD (k .baselines) i noBaseline)) (number i ∷ recordValues (c .before .before .update-fields .result .record)))
-
-at-once : (c : tie.After-record Inv-loop2 μ-loop2 Inv-loop μ-loop)
-    → Moved (body (inBlock (c .before .before .before .before .before .before .before .before .before .before .before))) (scene (c .before .before .before .before .before .before .before .before .before .before .before)) (c .before .before .before .before .before .before .before .before .before .before .before .before .loop2 .at) (Found c .1) (Found c .0) (formAt c)
-at-once c =
-    let m = c .before .before .before .before .before .before .before .before .before .before .before in
-    let k = m .before .loop2 in
-    let q = quick-here c in
-    let f = c .before .before .update-fields .result in
-    quick-moved (body (inBlock m)) (k .at) (m .loop2-test .taken) (k .baselines) (k .records) (k .present) (k .rest) (c .before .before .before .before .before .before .before .before .before .before .if3 .left) (getD (body (inBlock m)) (k .at) 0) refl (c .before .before .before .before .before .before .before .if6 .left)
-    (q .high) (c .before .before .before .before .before .update-head .result .entity) (q .sent) (f .next) (f .record) (q .parsed) (q .filled)
-
-at-less : (c : tie.After-record Inv-loop2 μ-loop2 Inv-loop μ-loop) → c .before .before .before .before .before .before .before .before .before .before .before .before .loop2 .at < Found c .0
-at-less c =
-    let m = c .before .before .before .before .before .before .before .before .before .before .before in
-    let o = inBlock m in
-    omega (arith, moved-less (body o) (body-bytes o) (scene m) (m .before .loop2 .at) (Found c .1) (Found c .0) (formAt c) (at-once c))
-
--- The update's bytes are the same in the input and in the block.
-front-here : (c : tie.After-record Inv-loop2 μ-loop2 Inv-loop μ-loop)
-    → let m = c .before .before .before .before .before .before .before .before .before .before .before in
-    let n = Found c .0 - m .before .loop2 .at in
-    take n (drop (m .before .loop2 .at) (input (blockOf (inBlock m)))) ≡ take n (drop (m .before .loop2 .at) (body (inBlock m)))
-front-here c =
-    let m = c .before .before .before .before .before .before .before .before .before .before .before in
-    let o = inBlock m in
-    front-kept (Found c .0 - m .before .loop2 .at) (m .before .loop2 .at) (end o) (input (blockOf o)) (omega (arith, at-less c, c .before .if10 .taken))
-
-step-once : (c : tie.After-put-read-update Inv-loop2 μ-loop2 Inv-loop μ-loop)
-    → let r = c .before .before in
-    let m = c .before .before .before .before .before .before .before .before .before .before .before .before .before in
-    let k = m .before .loop2 in
-    let i = c .before .before .before .before .before .before .before .update-head .result .entity in
-    let f = c .before .before .before .before .update-fields .result in
-    (filled : List ℕ) → ((x : Context) → Put (k .body) filled (k .size) (c .put-read-update .result) (cond (c .before .before .before .before .before .before .before .before .before .before .before .before .before .before .before .before .before .before .before .before .before .before .before .before .before .before .before .before .args .on) (readOrAnew x (baselineNumbers (getD (k .baselines) i noBaseline)) (number i ∷ recordValues (f .record)) (c .before .before .before .before .before .before .before .update-head .result .mask) (f .next - k .at) (drop (k .at) (input (blockOf (inBlock m))))) []))
-    → Step m (Found r .1) (Found r .0) filled (c .put-read-update .result)
-step-once c filled p =
-    let r = c .before .before in
-    let m = c .before .before .before .before .before .before .before .before .before .before .before .before .before in
-    let o = inBlock m in
-    let k = m .before .loop2 in
-    let i = c .before .before .before .before .before .before .before .update-head .result .entity in
-    let f = c .before .before .before .before .update-fields .result in
-    let q = quick-here r in
-    let same = kept-form (body o) (k .at) (m .loop2-test .taken) (k .baselines) (k .records) (k .present) (k .rest) (c .before .before .before .before .before .before .before .before .before .before .before .before .if3 .left) (getD (body o) (k .at) 0) refl (c .before .before .before .before .before .before .before .before .before .if6 .left)
-    (q .high) i (q .sent) (f .next) (f .record) (q .parsed) (q .filled) (body-bytes o) (small-here r) (c .before .before .before .before .before .before .before .update-head .result .mask) (f .next - k .at) (drop (k .at) (input (blockOf o))) (q .masked) (front-here r) in
-    record {
-      form = formAt r;
-      moved = at-once r;
-      put = subst (λ (bs : List ℕ). Put (k .body) filled (k .size) (c .put-read-update .result) (cond (c .before .before .before .before .before .before .before .before .before .before .before .before .before .before .before .before .before .before .before .before .before .before .before .before .before .before .before .before .args .on) bs [])) same (p (contextOf (scene m)));
-    }
 
 -- ---- where a block is at its end
 
 abbrev AtEnd : Type 0
-AtEnd = tie.After-block-size Inv-loop2 μ-loop2 Inv-loop μ-loop
+AtEnd = tie.After-block-size Inv-loop3 μ-loop3 Inv-loop2 μ-loop2 Inv-loop μ-loop
+
+abbrev closing : AtEnd → Opened
+closing c = c .before .before .before .before
+
+abbrev after : AtEnd → Scene
+after c = let k = c .before .before .loop2 in held (k .baselines) (k .records) (k .present) (k .rest)
 
 abbrev formed : AtEnd → List ℕ
-formed c = blockBytes (c .before .before .before .before .before .before .before .before .before .before .before .before .before .before .before .before .args .on) (angles (c .before .before .before)) (take (c .before .before .loop2 .size) (c .before .before .loop2 .body))
+formed c = blockBytes (begun (blockOf (closing c)) .args .on) (angles (closing c)) (take (c .before .before .loop2 .size) (c .before .before .loop2 .body))
 
 body-size : (c : AtEnd) → length (take (c .before .before .loop2 .size) (c .before .before .loop2 .body)) ≡ c .before .before .loop2 .size
 body-size c =
@@ -507,100 +597,111 @@ body-size c =
 
 formed-size : (c : AtEnd) → length (formed c) ≡ c .block-size .result
 formed-size c =
-    let h = c .before .before .before .before .before .before .read-head .result in
-    let on = c .before .before .before .before .before .before .before .before .before .before .before .before .before .before .before .before .args .on in
+    let h = closing c .before .before .before .read-head .result in
+    let on = begun (blockOf (closing c)) .args .on in
     block-length on (h .angle0) (h .angle1) (h .angle2) (take (c .before .before .loop2 .size) (c .before .before .loop2 .body))
     ∙ ap (λ (n : ℕ). cond on (16 + n) 0) (body-size c) ∙ sym (c .block-size .ensures)
 
 ended : (c : AtEnd)
-    → let a = c .before .before .before .before .before .before .before .before .before .before .before .before .before .before .before .before .args in
-    let l = c .before .before .before .before .before .before .before .before .before .loop in
-    let o = c .before .before .before in
-    let k = c .before .before .loop2 in
+    → let o = closing c in
+    let a = begun (blockOf o) .args in
+    let l = blockOf o .before .loop in
     whole (blockOf o)
     ≡ closed (sceneOf (a .given)) (input (blockOf o)) (a .on) (stores (blockOf o)) (a .room) (a .base) (l .blocks) (a .most - l .blocks - 1) (l .start) (end o) (angles o) (l .written) (l .out)
-    (k .messages) (held (k .baselines) (k .records) (k .present) (k .rest)) (formed c)
+    (c .before .before .loop2 .messages) (after c) (formed c)
 ended c =
-    let a = c .before .before .before .before .before .before .before .before .before .before .before .before .before .before .before .before .args in
-    let l = c .before .before .before .before .before .before .before .before .before .loop in
-    let o = c .before .before .before in
+    let o = closing c in
+    let a = begun (blockOf o) .args in
+    let l = blockOf o .before .loop in
     let k = c .before .before .loop2 in
     opened o ∙ k .inv .4
     ∙ on-end (sceneOf (a .given)) (input (blockOf o)) (a .on) (stores (blockOf o)) (a .room) (a .base) (l .blocks) _ (l .start) (end o) (angles o) (l .written) (l .out) (bytes (blockOf o)) (within o)
-    (k .messages) (held (k .baselines) (k .records) (k .present) (k .rest)) (take (k .size) (k .body)) (k .at) (c .before .loop2-test .left)
+    (k .messages) (after c) (take (k .size) (k .body)) (k .at) (c .before .loop2-test .left)
 
 -- The room is short for it.
-short : (c : tie.Then12 Inv-loop2 μ-loop2 Inv-loop μ-loop)
-    → let a = c .before .before .before .before .before .before .before .before .before .before .before .before .before .before .before .before .before .args in
-    let l = c .before .before .before .before .before .before .before .before .before .before .loop in
-    record { told = refusedIn (sceneOf (a .given)) (l .blocks) (l .start) 12 (c .before .block-size .result); written = l .written; room = l .out } ≡ whole (c .before .before .before .before .before .before .before .before .before)
+short : (c : tie.Then14 Inv-loop3 μ-loop3 Inv-loop2 μ-loop2 Inv-loop μ-loop) (r : WrittenAt) → Refuses (closing (c .before)) 12 (c .before .block-size .result) r → Answered (closing (c .before)) r
 short c =
-    let a = c .before .before .before .before .before .before .before .before .before .before .before .before .before .before .before .before .before .args in
-    let l = c .before .before .before .before .before .before .before .before .before .before .loop in
-    let k = c .before .before .before .loop2 in
-    let o = c .before .before .before .before in
-    sym (ended (c .before)
+    let e = c .before in
+    let o = closing e in
+    let a = begun (blockOf o) .args in
+    let l = blockOf o .before .loop in
+    refuse o 12 (e .block-size .result)
+    (sym (ended e
     ∙ closed-short (sceneOf (a .given)) (input (blockOf o)) (a .on) (stores (blockOf o)) (a .room) (a .base) (l .blocks) _ (l .start) (end o) (angles o) (l .written) (l .out)
-    (k .messages) (held (k .baselines) (k .records) (k .present) (k .rest)) (formed (c .before)) (c .before .block-size .result) (formed-size (c .before)) (c .if12 .taken))
+    (e .before .before .loop2 .messages) (after e) (formed e) (e .block-size .result) (formed-size e) (c .if14 .taken)))
 
 -- There is room for it.
-goes-on : (c : tie.Else12 Inv-loop2 μ-loop2 Inv-loop μ-loop)
-    → let a = c .before .before .before .before .before .before .before .before .before .before .before .before .before .before .before .before .before .args in
-    let l = c .before .before .before .before .before .before .before .before .before .before .loop in
-    let o = c .before .before .before .before in
-    let k = c .before .before .before .loop2 in
-    let w = l .written + c .before .block-size .result in
+goes-on : (c : tie.Else14 Inv-loop3 μ-loop3 Inv-loop2 μ-loop2 Inv-loop μ-loop)
+    → let e = c .before in
+    let o = closing e in
+    let a = begun (blockOf o) .args in
+    let l = blockOf o .before .loop in
+    let w = l .written + e .block-size .result in
     whole (blockOf o)
-    ≡ wroteOf (sceneOf (a .given)) (length (input (blockOf o))) (stores (blockOf o)) (a .base) (l .blocks + 1) (k .messages) w (put (stores (blockOf o)) (l .out) (a .base + l .written) (formed (c .before)))
-    (runOf (a .on) (a .most - l .blocks - 1) (a .room - w) (held (k .baselines) (k .records) (k .present) (k .rest)) (drop (end o) (input (blockOf o))))
+    ≡ wroteOf (sceneOf (a .given)) (length (input (blockOf o))) (stores (blockOf o)) (a .base) (l .blocks + 1) (e .before .before .loop2 .messages) w (put (stores (blockOf o)) (l .out) (a .base + l .written) (formed e))
+    (runOf (a .on) (a .most - l .blocks - 1) (a .room - w) (after e) (drop (end o) (input (blockOf o))))
 goes-on c =
-    let a = c .before .before .before .before .before .before .before .before .before .before .before .before .before .before .before .before .before .args in
-    let l = c .before .before .before .before .before .before .before .before .before .before .loop in
-    let o = c .before .before .before .before in
-    let k = c .before .before .before .loop2 in
-    ended (c .before)
+    let e = c .before in
+    let o = closing e in
+    let a = begun (blockOf o) .args in
+    let l = blockOf o .before .loop in
+    ended e
     ∙ closed-fits (sceneOf (a .given)) (input (blockOf o)) (a .on) (stores (blockOf o)) (a .room) (a .base) (l .blocks) _ (l .start) (end o) (angles o) (l .written) (l .out)
-    (k .messages) (held (k .baselines) (k .records) (k .present) (k .rest)) (formed (c .before)) (c .before .block-size .result) (formed-size (c .before)) (c .if12 .left)
+    (e .before .before .loop2 .messages) (after e) (formed e) (e .block-size .result) (formed-size e) (c .if14 .left)
 
-room-there : (c : tie.Else12 Inv-loop2 μ-loop2 Inv-loop μ-loop)
-    → let a = c .before .before .before .before .before .before .before .before .before .before .before .before .before .before .before .before .before .args in
-    let l = c .before .before .before .before .before .before .before .before .before .before .loop in
+room-there : (c : tie.Else14 Inv-loop3 μ-loop3 Inv-loop2 μ-loop2 Inv-loop μ-loop)
+    → let a = begun (blockOf (closing (c .before))) .args in
+    let l = blockOf (closing (c .before)) .before .loop in
     (a .on && stored (a .out .now) (a .base) (a .room)) ≡ true → a .base + l .written + 16 + c .before .before .before .loop2 .size ≤ length (l .out)
 room-there c e =
-    let a = c .before .before .before .before .before .before .before .before .before .before .before .before .before .before .before .before .before .args in
-    let l = c .before .before .before .before .before .before .before .before .before .before .loop in
+    let s = begun (blockOf (closing (c .before))) in
+    let a = s .args in
+    let l = blockOf (closing (c .before)) .before .loop in
     let b = and-true (a .on) (stored (a .out .now) (a .base) (a .room)) e in
     let n : c .before .block-size .result ≡ 16 + c .before .before .before .loop2 .size = c .before .block-size .ensures ∙ ap (λ (x : Bool). cond x (16 + c .before .before .before .loop2 .size) 0) (b .0) in
-    omega (arith, n, c .if12 .left, leb-true (a .room) (length (a .out .now) - a .base) (b .1), l .inv .5, l .inv .6, c .before .before .before .before .before .before .before .before .before .before .before .before .before .before .before .before .before .pre .2)
+    omega (arith, n, c .if14 .left, leb-true (a .room) (length (a .out .now) - a .base) (b .1), l .inv .5, l .inv .6, s .pre .2)
 
 -- What the room holds then.
-abbrev Stored : tie.After-store-block Inv-loop2 μ-loop2 Inv-loop μ-loop → List ℕ → Type 0
+abbrev AtStored : Type 0
+AtStored = tie.After-store-block Inv-loop3 μ-loop3 Inv-loop2 μ-loop2 Inv-loop μ-loop
+
+abbrev ending : AtStored → AtEnd
+ending c = c .before .before .before .before
+
+abbrev Stored : AtStored → List ℕ → Type 0
 Stored c x =
-    let a = c .before .before .before .before .before .before .before .before .before .before .before .before .before .before .before .before .before .before .before .before .args in
-    let k = c .before .before .before .before .before .before .loop2 in
-    x ≡ put (a .on && stores (c .before .before .before .before .before .before .before .before .before .before .before .before)) (c .before .before .before .before .before .before .before .before .before .before .before .before .before .loop .out) (a .base + c .before .before .before .before .before .before .before .before .before .before .before .before .before .loop .written) (leWrite 4 (k .size) ++ (print angleLayout (angles (c .before .before .before .before .before .before .before)) ++ take (k .size) (k .body)))
+    let o = closing (ending c) in
+    let a = begun (blockOf o) .args in
+    let l = blockOf o .before .loop in
+    let k = ending c .before .before .loop2 in
+    x ≡ put (a .on && stores (blockOf o)) (l .out) (a .base + l .written) (leWrite 4 (k .size) ++ (print angleLayout (angles o) ++ take (k .size) (k .body)))
 
-stored-there : (c : tie.After-store-block Inv-loop2 μ-loop2 Inv-loop μ-loop) (x : List ℕ) → Stored c x
-    → put (stores (c .before .before .before .before .before .before .before .before .before .before .before .before)) (c .before .before .before .before .before .before .before .before .before .before .before .before .before .loop .out) (c .before .before .before .before .before .before .before .before .before .before .before .before .before .before .before .before .before .before .before .before .args .base + c .before .before .before .before .before .before .before .before .before .before .before .before .before .loop .written) (formed (c .before .before .before .before)) ≡ x
+stored-there : (c : AtStored) (x : List ℕ) → Stored c x
+    → let o = closing (ending c) in
+    let l = blockOf o .before .loop in
+    put (stores (blockOf o)) (l .out) (begun (blockOf o) .args .base + l .written) (formed (ending c)) ≡ x
 stored-there c x e =
-    let a = c .before .before .before .before .before .before .before .before .before .before .before .before .before .before .before .before .before .before .before .before .args in
-    let k = c .before .before .before .before .before .before .loop2 in
-    sym (e ∙ put-block-there (a .on) (stores (c .before .before .before .before .before .before .before .before .before .before .before .before)) (c .before .before .before .before .before .before .before .before .before .before .before .before .before .loop .out) (a .base + c .before .before .before .before .before .before .before .before .before .before .before .before .before .loop .written) (angles (c .before .before .before .before .before .before .before)) (take (k .size) (k .body)) (k .size) (body-size (c .before .before .before .before)))
+    let o = closing (ending c) in
+    let a = begun (blockOf o) .args in
+    let l = blockOf o .before .loop in
+    let k = ending c .before .before .loop2 in
+    sym (e ∙ put-block-there (a .on) (stores (blockOf o)) (l .out) (a .base + l .written) (angles o) (take (k .size) (k .body)) (k .size) (body-size (ending c)))
 
-kept-length : (c : tie.After-store-block Inv-loop2 μ-loop2 Inv-loop μ-loop) (x : List ℕ) → Stored c x → length x ≡ length (c .before .before .before .before .before .before .before .before .before .before .before .before .before .loop .out)
+kept-length : (c : AtStored) (x : List ℕ) → Stored c x → length x ≡ length (blockOf (closing (ending c)) .before .loop .out)
 kept-length c x e =
-    let a = c .before .before .before .before .before .before .before .before .before .before .before .before .before .before .before .before .before .before .before .before .args in
-    let k = c .before .before .before .before .before .before .loop2 in
+    let o = closing (ending c) in
+    let a = begun (blockOf o) .args in
+    let l = blockOf o .before .loop in
+    let k = ending c .before .before .loop2 in
     ap length e
-    ∙ put-length (a .on && stores (c .before .before .before .before .before .before .before .before .before .before .before .before)) (c .before .before .before .before .before .before .before .before .before .before .before .before .before .loop .out) (a .base + c .before .before .before .before .before .before .before .before .before .before .before .before .before .loop .written)
-    (leWrite 4 (k .size) ++ (print angleLayout (angles (c .before .before .before .before .before .before .before)) ++ take (k .size) (k .body)))
+    ∙ put-length (a .on && stores (blockOf o)) (l .out) (a .base + l .written) (leWrite 4 (k .size) ++ (print angleLayout (angles o) ++ take (k .size) (k .body)))
 
--- src/lib.rt:102:26
-sub-stores : tie.Need-sub-stores Inv-loop2 μ-loop2 Inv-loop μ-loop
+-- ---- what is asked on the way, in the order of the code
+
+sub-stores : tie.Need-sub-stores Inv-loop3 μ-loop3 Inv-loop2 μ-loop2 Inv-loop μ-loop
 sub-stores c = c .before .before .before .before .before .before .pre .2
 
--- src/lib.rt:108:5
-loop-holds : tie.Need-loop-holds Inv-loop2 μ-loop2 Inv-loop μ-loop
+loop-holds : tie.Need-loop-holds Inv-loop3 μ-loop3 Inv-loop2 μ-loop2 Inv-loop μ-loop
 loop-holds c =
     let a = c .before .before .before .before .before .before .args in
     let n : a .most ≡ a .most - 0 = omega arith in
@@ -616,405 +717,317 @@ loop-holds c =
       ap₂ (λ (k r : ℕ). wroteOf (sceneOf (a .given)) (length (a .d .now)) (stored (a .out .now) (a .base) (a .room)) (a .base) 0 0 0 (a .out .now) (runOf (a .on) k r (sceneOf (a .given)) (drop (a .from) (a .d .now)))) n r,
     )
 
--- src/lib.rt:113:13
-read-head-requires : tie.Need-read-head-requires Inv-loop2 μ-loop2 Inv-loop μ-loop
+read-head-requires : tie.Need-read-head-requires Inv-loop3 μ-loop3 Inv-loop2 μ-loop2 Inv-loop μ-loop
 read-head-requires c κs = search needs
 
--- src/lib.rt:118:22
-add-at : tie.Need-add-at Inv-loop2 μ-loop2 Inv-loop μ-loop
+add-at : tie.Need-add-at Inv-loop3 μ-loop3 Inv-loop2 μ-loop2 Inv-loop μ-loop
 add-at c = omega (arith, c .before .read-head .ensures .1 .0 (c .if2 .left))
 
--- src/lib.rt:119:19
-add-end : tie.Need-add-end Inv-loop2 μ-loop2 Inv-loop μ-loop
+add-end : tie.Need-add-end Inv-loop3 μ-loop3 Inv-loop2 μ-loop2 Inv-loop μ-loop
 add-end c = omega (arith, c .before .before .read-head .ensures .1 .0 (c .before .if2 .left))
 
--- src/lib.rt:120:13
-slice-aggregate-s : tie.Need-slice-aggregate-s Inv-loop2 μ-loop2 Inv-loop μ-loop
-slice-aggregate-s c = sym (length-take-le _ _ (within c))
+slice-aggregate-s : tie.Need-slice-aggregate-s Inv-loop3 μ-loop3 Inv-loop2 μ-loop2 Inv-loop μ-loop
+slice-aggregate-s c = sym (body-long c)
 
--- src/lib.rt:122:9
-loop2-holds : tie.Need-loop2-holds Inv-loop2 μ-loop2 Inv-loop μ-loop
+quick-until-requires : tie.Need-quick-until-requires Inv-loop3 μ-loop3 Inv-loop2 μ-loop2 Inv-loop μ-loop
+quick-until-requires c κs = search needs
+
+loop2-holds : tie.Need-loop2-holds Inv-loop3 μ-loop3 Inv-loop2 μ-loop2 Inv-loop μ-loop
 loop2-holds c =
-    let l = c .before .before .before .before .before .before .loop in
-    let n = length-take-le (end c) (input (blockOf c)) (within c) in (
-      omega (arith, n, l .inv .2),
-      omega (arith, n, c .before .before .before .read-head .ensures .1 .1 (c .before .before .if2 .left)),
+    let o = c .before in
+    let l = blockOf o .before .loop in (
+      omega (arith, body-long o, l .inv .2),
+      omega (arith, body-long o, o .before .before .before .read-head .ensures .1 .1 (o .before .before .if2 .left)),
       l .inv .7,
       l .inv .4,
       refl,
     )
 
--- src/lib.rt:124:17
-refused-in-requires : tie.Need-refused-in-requires Inv-loop2 μ-loop2 Inv-loop μ-loop
+refused-in-requires : tie.Need-refused-in-requires Inv-loop3 μ-loop3 Inv-loop2 μ-loop2 Inv-loop μ-loop
 refused-in-requires c κs = search needs
 
--- src/lib.rt:124:17
-same-length : tie.Need-same-length Inv-loop2 μ-loop2 Inv-loop μ-loop
-same-length c = c .before .before .before .before .before .before .before .before .before .before .loop .inv .6
+same-length : tie.Need-same-length Inv-loop3 μ-loop3 Inv-loop2 μ-loop2 Inv-loop μ-loop
+same-length c = c .before .before .before .before .before .before .before .before .before .before .before .loop .inv .6
 
--- src/lib.rt:124:17
-returns : tie.Need-returns Inv-loop2 μ-loop2 Inv-loop μ-loop
+returns : tie.Need-returns Inv-loop3 μ-loop3 Inv-loop2 μ-loop2 Inv-loop μ-loop
 returns c =
-    (λ i. record { told = c .refused-in .ensures .0 i; written = c .refused-in .ensures .1 i; room = c .before .before .before .before .before .before .before .before .before .before .loop .out })
-    ∙ (let m = c .before .before in
+    let m = c .before .before in
+    let o = m .before .before .before in
     let k = m .before .loop2 in
-    stop-message m 11 (ended-refused (body (inBlock m)) (k .at) (m .loop2-test .taken) (k .baselines) (k .records) (k .present) (k .rest) (c .before .if3 .taken)))
+    refuse-message o (k .messages) (held (k .baselines) (k .records) (k .present) (k .rest)) (k .body) (k .at) (k .size) (k .inv) (m .loop2-test .taken) 11
+    (ended-refused (body o) (k .at) (m .loop2-test .taken) (k .baselines) (k .records) (k .present) (k .rest) (c .before .if3 .taken)) (c .refused-in .result) (c .refused-in .ensures)
 
--- src/lib.rt:126:21
-shared-slice-read-k : tie.Need-shared-slice-read-k Inv-loop2 μ-loop2 Inv-loop μ-loop
-shared-slice-read-k c = search needs
+loop3-holds : tie.Need-loop3-holds Inv-loop3 μ-loop3 Inv-loop2 μ-loop2 Inv-loop μ-loop
+loop3-holds c =
+    let i = c .before .before .loop2 .inv in
+    ((i .0, i .1, i .2, i .3, refl), omega arith)
 
--- src/lib.rt:128:21
-add-t74 : tie.Need-add-t74 Inv-loop2 μ-loop2 Inv-loop μ-loop
-add-t74 c = place-fits (c .before .before)
+shared-slice-read-k : tie.Need-shared-slice-read-k Inv-loop3 μ-loop3 Inv-loop2 μ-loop2 Inv-loop μ-loop
+shared-slice-read-k c = omega (arith, loaded (c .before))
 
--- src/lib.rt:169:50
-context-requires : tie.Need-context-requires Inv-loop2 μ-loop2 Inv-loop μ-loop
+add-update-head : tie.Need-add-update-head Inv-loop3 μ-loop3 Inv-loop2 μ-loop2 Inv-loop μ-loop
+add-update-head c = place-fits (update (c .before .before))
+
+update-head-requires : tie.Need-update-head-requires Inv-loop3 μ-loop3 Inv-loop2 μ-loop2 Inv-loop μ-loop
+update-head-requires c κs = omega (arith, loaded (c .before .before))
+
+mul-b : tie.Need-mul-b Inv-loop3 μ-loop3 Inv-loop2 μ-loop2 Inv-loop μ-loop
+mul-b c = omega (arith, c .before .if5 .left)
+
+array-copy-out-b : tie.Need-array-copy-out-b Inv-loop3 μ-loop3 Inv-loop2 μ-loop2 Inv-loop μ-loop
+array-copy-out-b c = c .before .if5 .left
+
+update-fields-requires : tie.Need-update-fields-requires Inv-loop3 μ-loop3 Inv-loop2 μ-loop2 Inv-loop μ-loop
+update-fields-requires c κs = omega (arith, c .before .before .before .update-head .ensures .1, loaded (c .before .before .before .before .before .before))
+
+sub-len : tie.Need-sub-len Inv-loop3 μ-loop3 Inv-loop2 μ-loop2 Inv-loop μ-loop
+sub-len c = omega (arith, moves c)
+
+slice-aggregate-put-read-update : tie.Need-slice-aggregate-put-read-update Inv-loop3 μ-loop3 Inv-loop2 μ-loop2 Inv-loop μ-loop
+slice-aggregate-put-read-update c = sym (update (updateOf (c .before)) .reached .2)
+
+put-read-update-requires : tie.Need-put-read-update-requires Inv-loop3 μ-loop3 Inv-loop2 μ-loop2 Inv-loop μ-loop
+put-read-update-requires c κs =
+    (room-for (update (updateOf (c .before))) 24 (omega arith), omega (arith, loaded (updateOf (c .before))))
+
+mul-records : tie.Need-mul-records Inv-loop3 μ-loop3 Inv-loop2 μ-loop2 Inv-loop μ-loop
+mul-records c = omega (arith, c .before .before .before .before .before .before .before .before .if5 .left)
+
+array-set-from-records : tie.Need-array-set-from-records Inv-loop3 μ-loop3 Inv-loop2 μ-loop2 Inv-loop μ-loop
+array-set-from-records c = c .before .before .before .before .before .before .before .before .if5 .left
+
+array-write-present : tie.Need-array-write-present Inv-loop3 μ-loop3 Inv-loop2 μ-loop2 Inv-loop μ-loop
+array-write-present c = c .before .before .before .before .before .before .before .before .if5 .left
+
+add-messages : tie.Need-add-messages Inv-loop3 μ-loop3 Inv-loop2 μ-loop2 Inv-loop μ-loop
+add-messages c = counts (update (updateOf (c .before .before .before)))
+
+loop3-less : tie.Need-loop3-less Inv-loop3 μ-loop3 Inv-loop2 μ-loop2 Inv-loop μ-loop
+loop3-less c =
+    let r = c .before .before .before in
+    let o = ran (updateOf r) in
+    moved-less (body o) (body-bytes o) (scene (update (updateOf r))) (updateOf r .before .loop3 .at) (updated r) (to r) (formAt r) (at-once r)
+
+loop3-again : tie.Need-loop3-again Inv-loop3 μ-loop3 Inv-loop2 μ-loop2 Inv-loop μ-loop
+loop3-again c =
+    let r = c .before .before .before in
+    let i = updateOf r .before .loop3 .inv in
+    let q = step-on (update (updateOf r)) (updated r) (to r) _ _ (step-once (c .before) _ (c .before .put-read-update .ensures)) in
+    ((q .0, q .1, q .2, q .3, i .0 .4 ∙ q .4), omega (arith, i .1, moves r))
+
+loop2-less : tie.Need-loop2-less Inv-loop3 μ-loop3 Inv-loop2 μ-loop2 Inv-loop μ-loop
+loop2-less c = omega (arith, c .if8 .taken, c .before .before .before .before .loop2-test .taken)
+
+loop2-again : tie.Need-loop2-again Inv-loop3 μ-loop3 Inv-loop2 μ-loop2 Inv-loop μ-loop
+loop2-again c = reached (c .before .before)
+
+shared-slice-read-k-2 : tie.Need-shared-slice-read-k-2 Inv-loop3 μ-loop3 Inv-loop2 μ-loop2 Inv-loop μ-loop
+shared-slice-read-k-2 c = search needs
+
+add-t76 : tie.Need-add-t76 Inv-loop3 μ-loop3 Inv-loop2 μ-loop2 Inv-loop μ-loop
+add-t76 c = place-fits (message (c .before))
+
+context-requires : tie.Need-context-requires Inv-loop3 μ-loop3 Inv-loop2 μ-loop2 Inv-loop μ-loop
 context-requires c κs = search needs
 
--- src/lib.rt:169:25
-time-at-requires : tie.Need-time-at-requires Inv-loop2 μ-loop2 Inv-loop μ-loop
+time-at-requires : tie.Need-time-at-requires Inv-loop3 μ-loop3 Inv-loop2 μ-loop2 Inv-loop μ-loop
 time-at-requires c κs = search needs
 
--- src/lib.rt:173:25
-refused-in-requires-2 : tie.Need-refused-in-requires-2 Inv-loop2 μ-loop2 Inv-loop μ-loop
+refused-in-requires-2 : tie.Need-refused-in-requires-2 Inv-loop3 μ-loop3 Inv-loop2 μ-loop2 Inv-loop μ-loop
 refused-in-requires-2 c κs = search needs
 
--- src/lib.rt:173:25
-same-length-2 : tie.Need-same-length-2 Inv-loop2 μ-loop2 Inv-loop μ-loop
-same-length-2 c = c .before .before .before .before .before .before .before .before .before .before .before .before .before .before .before .before .loop .inv .6
+same-length-2 : tie.Need-same-length-2 Inv-loop3 μ-loop3 Inv-loop2 μ-loop2 Inv-loop μ-loop
+same-length-2 c = blockOf (inBlock (c .before .before .before .before .before .before .before)) .before .loop .inv .6
 
--- src/lib.rt:173:25
-returns-2 : tie.Need-returns-2 Inv-loop2 μ-loop2 Inv-loop μ-loop
+returns-2 : tie.Need-returns-2 Inv-loop3 μ-loop3 Inv-loop2 μ-loop2 Inv-loop μ-loop
 returns-2 c =
-    (λ i. record { told = c .refused-in2 .ensures .0 i; written = c .refused-in2 .ensures .1 i; room = c .before .before .before .before .before .before .before .before .before .before .before .before .before .before .before .before .loop .out })
-    ∙ stop-parsed (c .before .before .before .before .before .before .before .before) (c .before .before .before .before .before .before .before .if3 .left) _ (c .before .before .before .time-at .result .cursor) (time-parsed (c .before .before .before)) (c .before .if4 .taken)
+    refuse-parsed (message (c .before .before .before .before .before .before .before)) _ (c .before .before .before .time-at .result .cursor) (time-parsed (c .before .before .before)) (c .before .if9 .taken) (c .refused-in2 .result) (c .refused-in2 .ensures)
 
--- src/lib.rt:176:41
-slice-aggregate-put-copy : tie.Need-slice-aggregate-put-copy Inv-loop2 μ-loop2 Inv-loop μ-loop
-slice-aggregate-put-copy c = sym (c .before .before .before .before .before .before .before .before .before .loop2 .inv .2)
+slice-aggregate-put-copy : tie.Need-slice-aggregate-put-copy Inv-loop3 μ-loop3 Inv-loop2 μ-loop2 Inv-loop μ-loop
+slice-aggregate-put-copy c = sym (message (c .before .before .before .before .before .before .before) .reached .2)
 
--- src/lib.rt:176:21
-put-copy-requires : tie.Need-put-copy-requires Inv-loop2 μ-loop2 Inv-loop μ-loop
-put-copy-requires c κs =
-    let r = c .before .before .before in
-    copy-fits (c .before .before .before .before .before .before .before .before) (r .time-at .result .cursor .at)
-    (parsed-on (c .before .before .before .before .before .before .before .before) (c .before .before .before .before .before .before .before .if3 .left) _ (r .time-at .result .cursor) (time-parsed r) (c .before .if4 .left))
+put-copy-requires : tie.Need-put-copy-requires Inv-loop3 μ-loop3 Inv-loop2 μ-loop2 Inv-loop μ-loop
+put-copy-requires c κs = copy-fits (message (c .before .before .before .before .before .before .before)) _ (c .before .before .before .time-at .result .cursor) (time-parsed (c .before .before .before)) (c .before .if9 .left)
 
--- src/lib.rt:183:25
-clientdata-at-requires : tie.Need-clientdata-at-requires Inv-loop2 μ-loop2 Inv-loop μ-loop
+clientdata-at-requires : tie.Need-clientdata-at-requires Inv-loop3 μ-loop3 Inv-loop2 μ-loop2 Inv-loop μ-loop
 clientdata-at-requires c κs = search needs
 
--- src/lib.rt:187:25
-refused-in-requires-3 : tie.Need-refused-in-requires-3 Inv-loop2 μ-loop2 Inv-loop μ-loop
+refused-in-requires-3 : tie.Need-refused-in-requires-3 Inv-loop3 μ-loop3 Inv-loop2 μ-loop2 Inv-loop μ-loop
 refused-in-requires-3 c κs = search needs
 
--- src/lib.rt:187:25
-same-length-3 : tie.Need-same-length-3 Inv-loop2 μ-loop2 Inv-loop μ-loop
-same-length-3 c = c .before .before .before .before .before .before .before .before .before .before .before .before .before .before .before .loop .inv .6
+same-length-3 : tie.Need-same-length-3 Inv-loop3 μ-loop3 Inv-loop2 μ-loop2 Inv-loop μ-loop
+same-length-3 c = blockOf (inBlock (c .before .before .before .before .before .before)) .before .loop .inv .6
 
--- src/lib.rt:187:25
-returns-3 : tie.Need-returns-3 Inv-loop2 μ-loop2 Inv-loop μ-loop
+returns-3 : tie.Need-returns-3 Inv-loop3 μ-loop3 Inv-loop2 μ-loop2 Inv-loop μ-loop
 returns-3 c =
-    (λ i. record { told = c .refused-in3 .ensures .0 i; written = c .refused-in3 .ensures .1 i; room = c .before .before .before .before .before .before .before .before .before .before .before .before .before .before .before .loop .out })
-    ∙ stop-parsed (c .before .before .before .before .before .before .before) (c .before .before .before .before .before .before .if3 .left) _ (c .before .before .before .clientdata-at .result .cursor) (client-parsed (c .before .before .before)) (c .before .if5 .taken)
+    refuse-parsed (message (c .before .before .before .before .before .before)) _ (c .before .before .before .clientdata-at .result .cursor) (client-parsed (c .before .before .before)) (c .before .if10 .taken) (c .refused-in3 .result) (c .refused-in3 .ensures)
 
--- src/lib.rt:190:25
-fill-client-requires : tie.Need-fill-client-requires Inv-loop2 μ-loop2 Inv-loop μ-loop
+fill-client-requires : tie.Need-fill-client-requires Inv-loop3 μ-loop3 Inv-loop2 μ-loop2 Inv-loop μ-loop
 fill-client-requires c κs = search needs
 
--- src/lib.rt:191:43
-slice-aggregate-put-client : tie.Need-slice-aggregate-put-client Inv-loop2 μ-loop2 Inv-loop μ-loop
-slice-aggregate-put-client c = sym (c .before .before .before .before .before .before .before .before .before .before .loop2 .inv .2)
+slice-aggregate-put-client : tie.Need-slice-aggregate-put-client Inv-loop3 μ-loop3 Inv-loop2 μ-loop2 Inv-loop μ-loop
+slice-aggregate-put-client c = sym (message (c .before .before .before .before .before .before .before .before) .reached .2)
 
--- src/lib.rt:191:21
-put-client-requires : tie.Need-put-client-requires Inv-loop2 μ-loop2 Inv-loop μ-loop
-put-client-requires c κs = omega (arith, c .before .before .before .before .before .before .before .before .before .before .loop2 .inv .1, c .before .before .before .before .before .before .before .before .before .before .loop2 .inv .2)
+put-client-requires : tie.Need-put-client-requires Inv-loop3 μ-loop3 Inv-loop2 μ-loop2 Inv-loop μ-loop
+put-client-requires c κs = room-for (message (c .before .before .before .before .before .before .before .before)) 32 (omega arith)
 
--- src/lib.rt:192:21
-with-client-requires : tie.Need-with-client-requires Inv-loop2 μ-loop2 Inv-loop μ-loop
+with-client-requires : tie.Need-with-client-requires Inv-loop3 μ-loop3 Inv-loop2 μ-loop2 Inv-loop μ-loop
 with-client-requires c κs = search needs
 
--- src/lib.rt:196:57
-context-requires-2 : tie.Need-context-requires-2 Inv-loop2 μ-loop2 Inv-loop μ-loop
+context-requires-2 : tie.Need-context-requires-2 Inv-loop3 μ-loop3 Inv-loop2 μ-loop2 Inv-loop μ-loop
 context-requires-2 c κs = search needs
 
--- src/lib.rt:196:25
-read-message-requires : tie.Need-read-message-requires Inv-loop2 μ-loop2 Inv-loop μ-loop
+read-message-requires : tie.Need-read-message-requires Inv-loop3 μ-loop3 Inv-loop2 μ-loop2 Inv-loop μ-loop
 read-message-requires c κs = search needs
 
--- src/lib.rt:200:25
-refused-in-requires-4 : tie.Need-refused-in-requires-4 Inv-loop2 μ-loop2 Inv-loop μ-loop
+refused-in-requires-4 : tie.Need-refused-in-requires-4 Inv-loop3 μ-loop3 Inv-loop2 μ-loop2 Inv-loop μ-loop
 refused-in-requires-4 c κs = search needs
 
--- src/lib.rt:200:25
-same-length-4 : tie.Need-same-length-4 Inv-loop2 μ-loop2 Inv-loop μ-loop
-same-length-4 c = c .before .before .before .before .before .before .before .before .before .before .before .before .before .before .before .before .before .loop .inv .6
+same-length-4 : tie.Need-same-length-4 Inv-loop3 μ-loop3 Inv-loop2 μ-loop2 Inv-loop μ-loop
+same-length-4 c = blockOf (inBlock (c .before .before .before .before .before .before .before .before)) .before .loop .inv .6
 
--- src/lib.rt:200:25
-returns-4 : tie.Need-returns-4 Inv-loop2 μ-loop2 Inv-loop μ-loop
+returns-4 : tie.Need-returns-4 Inv-loop3 μ-loop3 Inv-loop2 μ-loop2 Inv-loop μ-loop
 returns-4 c =
-    (λ i. record { told = c .refused-in4 .ensures .0 i; written = c .refused-in4 .ensures .1 i; room = c .before .before .before .before .before .before .before .before .before .before .before .before .before .before .before .before .before .loop .out })
-    ∙ (let r = c .before .before .before in
-    let m = c .before .before .before .before .before .before .before .before .before in
-    let k = m .before .loop2 in
-    stop-parsed m (c .before .before .before .before .before .before .before .before .if3 .left) _ (r .read-message .result .cursor)
-    (other-parsed (body (inBlock m)) (k .at) (m .loop2-test .taken) (k .baselines) (k .records) (k .present) (k .rest) (c .before .before .before .before .before .before .before .before .if3 .left) (body-bytes (inBlock m)) _
-    (r .before .context2 .ensures _ _ _) (r .read-message .result .message) (r .read-message .result .cursor) (r .read-message .ensures)) (c .before .if7 .taken))
+    refuse-parsed (message (c .before .before .before .before .before .before .before .before)) _ (c .before .before .before .read-message .result .cursor) (other-read (c .before .before .before)) (c .before .if12 .taken) (c .refused-in4 .result) (c .refused-in4 .ensures)
 
--- src/lib.rt:204:42
-slice-aggregate-put-other : tie.Need-slice-aggregate-put-other Inv-loop2 μ-loop2 Inv-loop μ-loop
-slice-aggregate-put-other c = sym (c .before .before .before .before .before .before .before .before .before .before .loop2 .inv .2)
+slice-aggregate-put-other : tie.Need-slice-aggregate-put-other Inv-loop3 μ-loop3 Inv-loop2 μ-loop2 Inv-loop μ-loop
+slice-aggregate-put-other c = sym (message (c .before .before .before .before .before .before .before .before) .reached .2)
 
--- src/lib.rt:204:21
-put-other-requires : tie.Need-put-other-requires Inv-loop2 μ-loop2 Inv-loop μ-loop
+put-other-requires : tie.Need-put-other-requires Inv-loop3 μ-loop3 Inv-loop2 μ-loop2 Inv-loop μ-loop
 put-other-requires c κs =
-    let r = c .before .before .before in
-    let m = c .before .before .before .before .before .before .before .before .before in
-    let k = m .before .loop2 in
-    let f = copy-fits m (r .read-message .result .cursor .at)
-    (parsed-on m (c .before .before .before .before .before .before .before .before .if3 .left) _ (r .read-message .result .cursor)
-    (other-parsed (body (inBlock m)) (k .at) (m .loop2-test .taken) (k .baselines) (k .records) (k .present) (k .rest) (c .before .before .before .before .before .before .before .before .if3 .left) (body-bytes (inBlock m)) _
-    (r .before .context2 .ensures _ _ _) (r .read-message .result .message) (r .read-message .result .cursor) (r .read-message .ensures)) (c .before .if7 .left)) in
-    (f .0, f .1, omega (arith, k .inv .1, k .inv .2))
+    let f = copy-fits (message (c .before .before .before .before .before .before .before .before)) _ (c .before .before .before .read-message .result .cursor) (other-read (c .before .before .before)) (c .before .if12 .left) in
+    (f .0, f .1, omega (arith, message (c .before .before .before .before .before .before .before .before) .reached .1, message (c .before .before .before .before .before .before .before .before) .reached .2))
 
--- src/lib.rt:206:43
-enum-known-message : tie.Need-enum-known-message Inv-loop2 μ-loop2 Inv-loop μ-loop
+enum-known-message : tie.Need-enum-known-message Inv-loop3 μ-loop3 Inv-loop2 μ-loop2 Inv-loop μ-loop
 enum-known-message c = search needs
 
--- src/lib.rt:207:37
-cast-i : tie.Need-cast-i Inv-loop2 μ-loop2 Inv-loop μ-loop
+cast-i : tie.Need-cast-i Inv-loop3 μ-loop3 Inv-loop2 μ-loop2 Inv-loop μ-loop
 cast-i c = search needs
 
--- src/lib.rt:209:29
-mul-baselines : tie.Need-mul-baselines Inv-loop2 μ-loop2 Inv-loop μ-loop
+mul-baselines : tie.Need-mul-baselines Inv-loop3 μ-loop3 Inv-loop2 μ-loop2 Inv-loop μ-loop
 mul-baselines c = omega (arith, baseline-index (c .before .before))
 
--- src/lib.rt:209:29
-array-set-from-baselines : tie.Need-array-set-from-baselines Inv-loop2 μ-loop2 Inv-loop μ-loop
+array-set-from-baselines : tie.Need-array-set-from-baselines Inv-loop3 μ-loop3 Inv-loop2 μ-loop2 Inv-loop μ-loop
 array-set-from-baselines c = baseline-index (c .before .before)
 
--- src/lib.rt:211:45
-enum-known-message-2 : tie.Need-enum-known-message-2 Inv-loop2 μ-loop2 Inv-loop μ-loop
+enum-known-message-2 : tie.Need-enum-known-message-2 Inv-loop3 μ-loop3 Inv-loop2 μ-loop2 Inv-loop μ-loop
 enum-known-message-2 c = search needs
 
--- src/lib.rt:212:33
-cleared-scene-requires : tie.Need-cleared-scene-requires Inv-loop2 μ-loop2 Inv-loop μ-loop
+cleared-scene-requires : tie.Need-cleared-scene-requires Inv-loop3 μ-loop3 Inv-loop2 μ-loop2 Inv-loop μ-loop
 cleared-scene-requires c κs = search needs
 
--- src/lib.rt:219:29
-apply-rest-requires : tie.Need-apply-rest-requires Inv-loop2 μ-loop2 Inv-loop μ-loop
+apply-rest-requires : tie.Need-apply-rest-requires Inv-loop3 μ-loop3 Inv-loop2 μ-loop2 Inv-loop μ-loop
 unfolding sceneWith
-apply-rest-requires c κs = omega (arith, range→ (scene (c .before .before .before .before .before .before .before .before .before .before .before .before)) (c .before .before .before .before .before .before .before .before .before .before .before .before .before .loop2 .inv .3) .statics)
+apply-rest-requires c κs = omega (arith, range→ (scene (message (c .before .before .before .before .before .before .before .before .before .before .before))) (message (c .before .before .before .before .before .before .before .before .before .before .before) .reached .3) .statics)
 
--- src/lib.rt:133:39
-sub-if8 : tie.Need-sub-if8 Inv-loop2 μ-loop2 Inv-loop μ-loop
-sub-if8 c = omega (arith, here-inside (c .before .before .before .before))
-
--- src/lib.rt:134:55
-add-update-head : tie.Need-add-update-head Inv-loop2 μ-loop2 Inv-loop μ-loop
-add-update-head c = omega (arith, here-inside (c .before .before .before .before .before))
-
--- src/lib.rt:134:29
-update-head-requires : tie.Need-update-head-requires Inv-loop2 μ-loop2 Inv-loop μ-loop
-update-head-requires c κs = omega (arith, c .if8 .taken)
-
--- src/lib.rt:138:37
-mul-b : tie.Need-mul-b Inv-loop2 μ-loop2 Inv-loop μ-loop
-mul-b c = omega (arith, known c .0)
-
--- src/lib.rt:138:37
-array-copy-out-b : tie.Need-array-copy-out-b Inv-loop2 μ-loop2 Inv-loop μ-loop
-array-copy-out-b c = known c .0
-
--- src/lib.rt:139:33
-update-fields-requires : tie.Need-update-fields-requires Inv-loop2 μ-loop2 Inv-loop μ-loop
-update-fields-requires c κs = omega (arith, c .before .before .update-head .ensures .1, c .before .before .before .if8 .taken)
-
--- src/lib.rt
-sub-len : tie.Need-sub-len Inv-loop2 μ-loop2 Inv-loop μ-loop
-sub-len c = omega (arith, at-less c)
-
--- src/lib.rt
-slice-aggregate-put-read-update : tie.Need-slice-aggregate-put-read-update Inv-loop2 μ-loop2 Inv-loop μ-loop
-slice-aggregate-put-read-update c = sym (c .before .before .before .before .before .before .before .before .before .before .before .before .before .loop2 .inv .2)
-
--- src/lib.rt
-put-read-update-requires : tie.Need-put-read-update-requires Inv-loop2 μ-loop2 Inv-loop μ-loop
-put-read-update-requires c κs =
-    let k = c .before .before .before .before .before .before .before .before .before .before .before .before .before .loop2 in
-    (omega (arith, k .inv .1, k .inv .2), omega (arith, c .before .before .before .before .before .before .before .if8 .taken, here-inside (c .before .before .before .before .before .before .before .before .before .before .before .before)))
-
--- src/lib.rt:144:33
-mul-records : tie.Need-mul-records Inv-loop2 μ-loop2 Inv-loop μ-loop
-mul-records c = omega (arith, known (c .before .before .before .before .before .before .before) .0)
-
--- src/lib.rt:144:33
-array-set-from-records : tie.Need-array-set-from-records Inv-loop2 μ-loop2 Inv-loop μ-loop
-array-set-from-records c = known (c .before .before .before .before .before .before .before) .0
-
--- src/lib.rt:145:33
-array-write-present : tie.Need-array-write-present Inv-loop2 μ-loop2 Inv-loop μ-loop
-array-write-present c = known (c .before .before .before .before .before .before .before) .0
-
--- src/lib.rt:147:33
-add-messages : tie.Need-add-messages Inv-loop2 μ-loop2 Inv-loop μ-loop
-add-messages c = counts (c .before .before .before .before .before .before .before .before .before .before .before .before .before .before)
-
--- src/lib.rt:122:9
-loop2-less : tie.Need-loop2-less Inv-loop2 μ-loop2 Inv-loop μ-loop
-loop2-less c =
-    let m = c .before .before .before .before .before .before .before .before .before .before .before .before .before .before in
-    moved-less (body (inBlock m)) (body-bytes (inBlock m)) (scene m) (m .before .loop2 .at) _ _ _ (at-once (c .before .before .before))
-
--- src/lib.rt:122:9
-loop2-again : tie.Need-loop2-again Inv-loop2 μ-loop2 Inv-loop μ-loop
-loop2-again c = step-again (c .before .before .before .before .before .before .before .before .before .before .before .before .before .before) _ _ _ _ (step-once (c .before) _ (c .before .put-read-update .ensures))
-
--- src/lib.rt:152:25
-read-update-requires : tie.Need-read-update-requires Inv-loop2 μ-loop2 Inv-loop μ-loop
+read-update-requires : tie.Need-read-update-requires Inv-loop3 μ-loop3 Inv-loop2 μ-loop2 Inv-loop μ-loop
 read-update-requires c κs = search needs
 
--- src/lib.rt:156:25
-refused-in-requires-5 : tie.Need-refused-in-requires-5 Inv-loop2 μ-loop2 Inv-loop μ-loop
+refused-in-requires-5 : tie.Need-refused-in-requires-5 Inv-loop3 μ-loop3 Inv-loop2 μ-loop2 Inv-loop μ-loop
 refused-in-requires-5 c κs = search needs
 
--- src/lib.rt:156:25
-same-length-5 : tie.Need-same-length-5 Inv-loop2 μ-loop2 Inv-loop μ-loop
-same-length-5 c = c .before .before .before .before .before .before .before .before .before .before .before .before .before .before .before .before .before .loop .inv .6
+same-length-5 : tie.Need-same-length-5 Inv-loop3 μ-loop3 Inv-loop2 μ-loop2 Inv-loop μ-loop
+same-length-5 c = blockOf (inBlock (c .before .before .before .before .before .before .before)) .before .loop .inv .6
 
--- src/lib.rt:156:25
-returns-5 : tie.Need-returns-5 Inv-loop2 μ-loop2 Inv-loop μ-loop
+returns-5 : tie.Need-returns-5 Inv-loop3 μ-loop3 Inv-loop2 μ-loop2 Inv-loop μ-loop
 returns-5 c =
-    (λ i. record { told = c .refused-in5 .ensures .0 i; written = c .refused-in5 .ensures .1 i; room = c .before .before .before .before .before .before .before .before .before .before .before .before .before .before .before .before .before .loop .out })
-    ∙ (let r = c .before .before .before in
-    let m = c .before .before .before .before .before .before .before .before .before in
-    let k = m .before .loop2 in
-    stop-parsed m (c .before .before .before .before .before .before .before .before .if3 .left) _ (r .read-update .result .cursor)
-    (update-parsed (body (inBlock m)) (k .at) (m .loop2-test .taken) (k .baselines) (k .records) (k .present) (k .rest) (c .before .before .before .before .before .before .before .before .if3 .left) (body-bytes (inBlock m)) _ refl (c .before .before .before .before .before .if6 .left)
-    (r .read-update .result .update) (r .read-update .result .cursor) (r .read-update .ensures)) (c .before .if11 .taken))
+    refuse-parsed (message (c .before .before .before .before .before .before .before)) _ (c .before .before .before .read-update .result .cursor) (update-read (c .before .before .before)) (c .before .if13 .taken) (c .refused-in5 .result) (c .refused-in5 .ensures)
 
--- src/lib.rt:160:29
-cast-i-2 : tie.Need-cast-i-2 Inv-loop2 μ-loop2 Inv-loop μ-loop
+cast-i-2 : tie.Need-cast-i-2 Inv-loop3 μ-loop3 Inv-loop2 μ-loop2 Inv-loop μ-loop
 cast-i-2 c = search needs
 
--- src/lib.rt:161:29
-mul-b-2 : tie.Need-mul-b-2 Inv-loop2 μ-loop2 Inv-loop μ-loop
+mul-b-2 : tie.Need-mul-b-2 Inv-loop3 μ-loop3 Inv-loop2 μ-loop2 Inv-loop μ-loop
 mul-b-2 c = omega (arith, update-index (c .before .before .before))
 
--- src/lib.rt:161:29
-array-copy-out-b-2 : tie.Need-array-copy-out-b-2 Inv-loop2 μ-loop2 Inv-loop μ-loop
+array-copy-out-b-2 : tie.Need-array-copy-out-b-2 Inv-loop3 μ-loop3 Inv-loop2 μ-loop2 Inv-loop μ-loop
 array-copy-out-b-2 c = update-index (c .before .before .before)
 
--- src/lib.rt:162:25
-fill-update-requires : tie.Need-fill-update-requires Inv-loop2 μ-loop2 Inv-loop μ-loop
+fill-update-requires : tie.Need-fill-update-requires Inv-loop3 μ-loop3 Inv-loop2 μ-loop2 Inv-loop μ-loop
 fill-update-requires c κs = search needs
 
--- src/lib.rt:163:43
-slice-aggregate-put-update :
-    tie.Need-slice-aggregate-put-update Inv-loop2 μ-loop2 Inv-loop μ-loop
-slice-aggregate-put-update c = sym (c .before .before .before .before .before .before .before .before .before .before .before .before .before .before .before .loop2 .inv .2)
+slice-aggregate-put-update : tie.Need-slice-aggregate-put-update Inv-loop3 μ-loop3 Inv-loop2 μ-loop2 Inv-loop μ-loop
+slice-aggregate-put-update c = sym (message (c .before .before .before .before .before .before .before .before .before .before .before .before) .reached .2)
 
--- src/lib.rt:163:21
-put-update-requires : tie.Need-put-update-requires Inv-loop2 μ-loop2 Inv-loop μ-loop
-put-update-requires c κs = omega (arith, c .before .before .before .before .before .before .before .before .before .before .before .before .before .before .before .loop2 .inv .1, c .before .before .before .before .before .before .before .before .before .before .before .before .before .before .before .loop2 .inv .2)
+put-update-requires : tie.Need-put-update-requires Inv-loop3 μ-loop3 Inv-loop2 μ-loop2 Inv-loop μ-loop
+put-update-requires c κs = room-for (message (c .before .before .before .before .before .before .before .before .before .before .before .before)) _ (omega arith)
 
--- src/lib.rt:164:21
-mul-records-2 : tie.Need-mul-records-2 Inv-loop2 μ-loop2 Inv-loop μ-loop
+mul-records-2 : tie.Need-mul-records-2 Inv-loop3 μ-loop3 Inv-loop2 μ-loop2 Inv-loop μ-loop
 mul-records-2 c = omega (arith, update-index (c .before .before .before .before .before .before .before .before))
 
--- src/lib.rt:164:21
-array-set-from-records-2 : tie.Need-array-set-from-records-2 Inv-loop2 μ-loop2 Inv-loop μ-loop
+array-set-from-records-2 : tie.Need-array-set-from-records-2 Inv-loop3 μ-loop3 Inv-loop2 μ-loop2 Inv-loop μ-loop
 array-set-from-records-2 c = update-index (c .before .before .before .before .before .before .before .before)
 
--- src/lib.rt:165:21
-array-write-present-2 : tie.Need-array-write-present-2 Inv-loop2 μ-loop2 Inv-loop μ-loop
+array-write-present-2 : tie.Need-array-write-present-2 Inv-loop3 μ-loop3 Inv-loop2 μ-loop2 Inv-loop μ-loop
 array-write-present-2 c = update-index (c .before .before .before .before .before .before .before .before)
 
--- src/lib.rt:225:13
-add-messages-2 : tie.Need-add-messages-2 Inv-loop2 μ-loop2 Inv-loop μ-loop
-add-messages-2 c = counts (c .before .before .before)
+add-messages-2 : tie.Need-add-messages-2 Inv-loop3 μ-loop3 Inv-loop2 μ-loop2 Inv-loop μ-loop
+add-messages-2 c = counts (message (c .before .before))
 
--- src/lib.rt:122:9
-loop2-less-2 : tie.Need-loop2-less-2 Inv-loop2 μ-loop2 Inv-loop μ-loop
-loop2-less-2 c = step-less (c .before .before .before) (next c) (c .match .at) (c .match .body) (c .match .size) (came c)
+loop2-less-2 : tie.Need-loop2-less-2 Inv-loop3 μ-loop3 Inv-loop2 μ-loop2 Inv-loop μ-loop
+loop2-less-2 c = omega (arith, step-less (message (c .before .before)) (next c) (c .match .at) (c .match .body) (c .match .size) (came c), c .before .before .before .before .loop3 .inv .1)
 
--- src/lib.rt:122:9
-loop2-again-2 : tie.Need-loop2-again-2 Inv-loop2 μ-loop2 Inv-loop μ-loop
-loop2-again-2 c = step-again (c .before .before .before) (next c) (c .match .at) (c .match .body) (c .match .size) (came c)
+loop2-again-2 : tie.Need-loop2-again-2 Inv-loop3 μ-loop3 Inv-loop2 μ-loop2 Inv-loop μ-loop
+loop2-again-2 c =
+    let p = message (c .before .before) in
+    let q = step-on p (next c) (c .match .at) (c .match .body) (c .match .size) (came c) in
+    (q .0, q .1, q .2, q .3, p .reached .4 ∙ q .4)
 
--- src/lib.rt:227:13
-block-size-requires : tie.Need-block-size-requires Inv-loop2 μ-loop2 Inv-loop μ-loop
+block-size-requires : tie.Need-block-size-requires Inv-loop3 μ-loop3 Inv-loop2 μ-loop2 Inv-loop μ-loop
 block-size-requires c κs = omega (arith, c .before .loop2 .inv .1)
 
--- src/lib.rt:228:12
-sub-if12 : tie.Need-sub-if12 Inv-loop2 μ-loop2 Inv-loop μ-loop
-sub-if12 c = c .before .before .before .before .before .before .before .before .before .loop .inv .5
+sub-if14 : tie.Need-sub-if14 Inv-loop3 μ-loop3 Inv-loop2 μ-loop2 Inv-loop μ-loop
+sub-if14 c = c .before .before .before .before .before .before .before .before .before .before .loop .inv .5
 
--- src/lib.rt:229:13
-refused-in-requires-6 : tie.Need-refused-in-requires-6 Inv-loop2 μ-loop2 Inv-loop μ-loop
+refused-in-requires-6 : tie.Need-refused-in-requires-6 Inv-loop3 μ-loop3 Inv-loop2 μ-loop2 Inv-loop μ-loop
 refused-in-requires-6 c κs = search needs
 
--- src/lib.rt:229:13
-same-length-6 : tie.Need-same-length-6 Inv-loop2 μ-loop2 Inv-loop μ-loop
-same-length-6 c = c .before .before .before .before .before .before .before .before .before .before .before .loop .inv .6
+same-length-6 : tie.Need-same-length-6 Inv-loop3 μ-loop3 Inv-loop2 μ-loop2 Inv-loop μ-loop
+same-length-6 c = c .before .before .before .before .before .before .before .before .before .before .before .before .loop .inv .6
 
--- src/lib.rt:229:13
-returns-6 : tie.Need-returns-6 Inv-loop2 μ-loop2 Inv-loop μ-loop
-returns-6 c =
-    (λ i. record { told = c .refused-in6 .ensures .0 i; written = c .refused-in6 .ensures .1 i; room = c .before .before .before .before .before .before .before .before .before .before .before .loop .out })
-    ∙ short (c .before)
+returns-6 : tie.Need-returns-6 Inv-loop3 μ-loop3 Inv-loop2 μ-loop2 Inv-loop μ-loop
+returns-6 c = short (c .before) (c .refused-in6 .result) (c .refused-in6 .ensures)
 
--- src/lib.rt
-slice-aggregate-store-block : tie.Need-slice-aggregate-store-block Inv-loop2 μ-loop2 Inv-loop μ-loop
+slice-aggregate-store-block : tie.Need-slice-aggregate-store-block Inv-loop3 μ-loop3 Inv-loop2 μ-loop2 Inv-loop μ-loop
 slice-aggregate-store-block c = sym (c .before .before .before .before .before .loop2 .inv .2)
 
--- src/lib.rt
-store-block-requires : tie.Need-store-block-requires Inv-loop2 μ-loop2 Inv-loop μ-loop
+store-block-requires : tie.Need-store-block-requires Inv-loop3 μ-loop3 Inv-loop2 μ-loop2 Inv-loop μ-loop
 store-block-requires c κs =
     let k = c .before .before .before .before .before .loop2 in
     (room-there (c .before .before), omega (arith, k .inv .1, k .inv .2), omega (arith, k .inv .1))
 
--- src/lib.rt:232:9
-add-written : tie.Need-add-written Inv-loop2 μ-loop2 Inv-loop μ-loop
-add-written c = omega (arith, c .before .before .before .before .before .if12 .left, c .before .before .before .before .before .before .before .before .before .before .before .before .before .before .before .loop .inv .5, c .before .before .before .before .before .before .before .before .before .before .before .before .before .before .before .before .before .before .before .before .before .before .fits .room)
+add-written : tie.Need-add-written Inv-loop3 μ-loop3 Inv-loop2 μ-loop2 Inv-loop μ-loop
+add-written c = omega (arith, c .before .before .before .before .before .if14 .left, c .before .before .before .before .before .before .before .before .before .before .before .before .before .before .before .before .loop .inv .5, c .before .before .before .before .before .before .before .before .before .before .before .before .before .before .before .before .before .before .before .before .before .before .before .fits .room)
 
--- src/lib.rt:234:9
-add-blocks : tie.Need-add-blocks Inv-loop2 μ-loop2 Inv-loop μ-loop
-add-blocks c = omega (arith, more (c .before .before .before .before .before .before .before .before .before .before .before .before .before .before), c .before .before .before .before .before .before .before .before .before .before .before .before .before .before .before .before .before .before .before .before .before .before .fits .most)
+add-blocks : tie.Need-add-blocks Inv-loop3 μ-loop3 Inv-loop2 μ-loop2 Inv-loop μ-loop
+add-blocks c = omega (arith, more (c .before .before .before .before .before .before .before .before .before .before .before .before .before .before .before), c .before .before .before .before .before .before .before .before .before .before .before .before .before .before .before .before .before .before .before .before .before .before .before .fits .most)
 
--- src/lib.rt:108:5
-loop-less : tie.Need-loop-less Inv-loop2 μ-loop2 Inv-loop μ-loop
-loop-less c = omega (arith, more (c .before .before .before .before .before .before .before .before .before .before .before .before .before .before))
+loop-less : tie.Need-loop-less Inv-loop3 μ-loop3 Inv-loop2 μ-loop2 Inv-loop μ-loop
+loop-less c = omega (arith, more (c .before .before .before .before .before .before .before .before .before .before .before .before .before .before .before))
 
--- src/lib.rt:108:5
-loop-again : tie.Need-loop-again Inv-loop2 μ-loop2 Inv-loop μ-loop
+loop-again : tie.Need-loop-again Inv-loop3 μ-loop3 Inv-loop2 μ-loop2 Inv-loop μ-loop
 loop-again c =
-    let k = c .before .before .before .before .before .before .before .before .loop2 in
-    let o = c .before .before .before .before .before .before .before .before .before in
-    let a = c .before .before .before .before .before .before .before .before .before .before .before .before .before .before .before .before .before .before .before .before .before .before .args in
-    let l = c .before .before .before .before .before .before .before .before .before .before .before .before .before .before .before .loop in
-    let t = held (k .baselines) (k .records) (k .present) (k .rest) in
     let e = c .before .before .before .before .before in
     let w = c .before .before in
+    let o = closing (e .before) in
+    let k = c .before .before .before .before .before .before .before .before .loop2 in
+    let a = begun (blockOf o) .args in
+    let l = blockOf o .before .loop in
     let n : a .most - l .blocks - 1 ≡ a .most - (l .blocks + 1) = omega arith in (
-      c .before .before .before .before .before .before .before .before .before .before .before .if2 .left,
+      o .before .before .if2 .left,
       within o,
       omega (arith, k .inv .0),
       omega (arith, more (blockOf o)),
       k .inv .3,
-      omega (arith, e .if12 .left, l .inv .5),
+      omega (arith, e .if14 .left, l .inv .5),
       kept-length w _ (w .store-block .ensures) ∙ l .inv .6,
       k .inv .2,
-      goes-on e ∙ ap₂ (λ (x : List ℕ) (j : ℕ). wroteOf (sceneOf (a .given)) (length (input (blockOf o))) (stores (blockOf o)) (a .base) (l .blocks + 1) (k .messages) (l .written + e .before .block-size .result) x (runOf (a .on) j (a .room - (l .written + e .before .block-size .result)) t (drop (end o) (input (blockOf o))))) (stored-there w _ (w .store-block .ensures)) n,
+      goes-on e ∙ ap₂ (λ (x : List ℕ) (j : ℕ). wroteOf (sceneOf (a .given)) (length (input (blockOf o))) (stores (blockOf o)) (a .base) (l .blocks + 1) (k .messages) (l .written + e .before .block-size .result) x (runOf (a .on) j (a .room - (l .written + e .before .block-size .result)) (after (e .before)) (drop (end o) (input (blockOf o))))) (stored-there w _ (w .store-block .ensures)) n,
     )
 
--- src/lib.rt:93:1
-same-length-7 : tie.Need-same-length-7 Inv-loop2 μ-loop2 Inv-loop μ-loop
+same-length-7 : tie.Need-same-length-7 Inv-loop3 μ-loop3 Inv-loop2 μ-loop2 Inv-loop μ-loop
 same-length-7 c = c .before .loop .inv .6
 
--- src/lib.rt:93:1
-returns-7 : tie.Need-returns-7 Inv-loop2 μ-loop2 Inv-loop μ-loop
+returns-7 : tie.Need-returns-7 Inv-loop3 μ-loop3 Inv-loop2 μ-loop2 Inv-loop μ-loop
 returns-7 c =
     let a = c .before .before .before .before .before .before .before .before .args in
     let k = c .before .loop in
@@ -1025,21 +1038,17 @@ returns-7 c =
     ∙ sym (k .inv .8
     ∙ run-over (sceneOf (a .given)) d (a .on) s (a .room) (a .base) (k .blocks) (k .messages) (k .written) (k .out) t (k .start) (a .most) (k .blocks) (k .inv .1) (c .loop-test .left))
 
--- src/lib.rt:93:1
-same-length-8 : tie.Need-same-length-8 Inv-loop2 μ-loop2 Inv-loop μ-loop
+same-length-8 : tie.Need-same-length-8 Inv-loop3 μ-loop3 Inv-loop2 μ-loop2 Inv-loop μ-loop
 same-length-8 c = c .before .before .loop .inv .6
 
--- src/lib.rt:93:1
-returns-8 : tie.Need-returns-8 Inv-loop2 μ-loop2 Inv-loop μ-loop
+returns-8 : tie.Need-returns-8 Inv-loop3 μ-loop3 Inv-loop2 μ-loop2 Inv-loop μ-loop
 unfolding sceneWith
 returns-8 c = stop-block (c .before) 11 (block-ended (before (c .before)) (drop (c .before .before .loop .start) (input (c .before))) (c .if1 .taken))
 
--- src/lib.rt:93:1
-same-length-9 : tie.Need-same-length-9 Inv-loop2 μ-loop2 Inv-loop μ-loop
+same-length-9 : tie.Need-same-length-9 Inv-loop3 μ-loop3 Inv-loop2 μ-loop2 Inv-loop μ-loop
 same-length-9 c = c .before .before .before .before .loop .inv .6
 
--- src/lib.rt:93:1
-returns-9 : tie.Need-returns-9 Inv-loop2 μ-loop2 Inv-loop μ-loop
+returns-9 : tie.Need-returns-9 Inv-loop3 μ-loop3 Inv-loop2 μ-loop2 Inv-loop μ-loop
 unfolding sceneWith
 returns-9 c =
     let b = c .before .before .before in
@@ -1050,6 +1059,8 @@ pub write-blocks-spec : {M : Type 1} → statement M
 write-blocks-spec =
     tie.close
     (tie.spec
+    Inv-loop3
+    μ-loop3
     Inv-loop2
     μ-loop2
     Inv-loop
@@ -1060,12 +1071,31 @@ write-blocks-spec =
     add-at
     add-end
     slice-aggregate-s
+    quick-until-requires
     loop2-holds
     refused-in-requires
     same-length
     returns
+    loop3-holds
     shared-slice-read-k
-    add-t74
+    add-update-head
+    update-head-requires
+    mul-b
+    array-copy-out-b
+    update-fields-requires
+    sub-len
+    slice-aggregate-put-read-update
+    put-read-update-requires
+    mul-records
+    array-set-from-records
+    array-write-present
+    add-messages
+    loop3-less
+    loop3-again
+    loop2-less
+    loop2-again
+    shared-slice-read-k-2
+    add-t76
     context-requires
     time-at-requires
     refused-in-requires-2
@@ -1095,21 +1125,6 @@ write-blocks-spec =
     enum-known-message-2
     cleared-scene-requires
     apply-rest-requires
-    sub-if8
-    add-update-head
-    update-head-requires
-    mul-b
-    array-copy-out-b
-    update-fields-requires
-    sub-len
-    slice-aggregate-put-read-update
-    put-read-update-requires
-    mul-records
-    array-set-from-records
-    array-write-present
-    add-messages
-    loop2-less
-    loop2-again
     read-update-requires
     refused-in-requires-5
     same-length-5
@@ -1127,7 +1142,7 @@ write-blocks-spec =
     loop2-less-2
     loop2-again-2
     block-size-requires
-    sub-if12
+    sub-if14
     refused-in-requires-6
     same-length-6
     returns-6

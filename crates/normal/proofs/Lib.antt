@@ -3,4 +3,3 @@ pub mod UpdateBytes
 pub mod ClientBytes
 pub mod SoundBytes
 pub mod BlockBytes
-pub mod KeptLaws

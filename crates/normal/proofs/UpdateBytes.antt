@@ -23,7 +23,6 @@ use Rattle.scene.specs.declared.Record.{Record}
 use Rattle.normal.specs.declared.PoseBits.{PoseBits}
 use Rattle.normal.specs.Put.{Put}
 use Rattle.normal.specs.Sent.{sentBytes, bitsOf, fieldValues, defaults, updateBits, headBytes}
-use Rattle.normal.specs.Kept.{normalBits, readOrAnew}
 use Rattle.normal.proofs.PutLaws.{put-same, put-then}
 
 pub set-test : (n : ℕ) → not (eqb n 0) ≡ isSet n
@@ -123,33 +122,6 @@ head-put n h e a b c d f p q r s t g0 g1 g2 g3 =
     put-same a f p t (leWrite 1 n ++ (high ++ (leWrite 1 (e % 256) ++ wide))) (headBytes n h e) same
     (put-then a b f p q t (leWrite 1 n) (high ++ (leWrite 1 (e % 256) ++ wide)) g0
     (put-then b c f q r t high (leWrite 1 (e % 256) ++ wide) g1 (put-then c d f r s t (leWrite 1 (e % 256)) wide g2 g3)))
-
--- The two bytes of the mask.
-set-bit : (b : Bool) → b ≡ isSet (bitOf b)
-set-bit true = refl
-set-bit false = refl
-
-pub mask-of : (e : ℕ) (u : Record) (o : Base) (p p₀ : PoseBits) (n h : ℕ) → p ≡ bitsOf (u .pose) → p₀ ≡ bitsOf (o .pose)
-    → h ≡ highByte (updateBits e (u .bit5) (u .look) (u .effects) p (o .look) p₀)
-    → n ≡ updateNumber (updateBits e (u .bit5) (u .look) (u .effects) p (o .look) p₀)
-    → h * 256 + n ≡ normalBits (baselineNumbers o) (number e ∷ recordValues u)
-mask-of e u o p p₀ n h ep eo eh en = ap₂ (λ (h n : ℕ). h * 256 + n) eh en ∙ (λ i. bytes (set-bit (u .bit5) i) (ep i) (eo i))
-  where
-    bytes : Bool → PoseBits → PoseBits → ℕ
-    bytes x p p₀ =
-        highByte (updateBits e x (u .look) (u .effects) p (o .look) p₀) * 256 + updateNumber (updateBits e x (u .look) (u .effects) p (o .look) p₀)
-
--- An update as it was read, and one anew.
-module _ (x : Context) (b : Baseline) (vs : List Value) (mask len m : ℕ) (bs : List ℕ) (em : m ≡ normalBits b vs) where
-  either : (c : Bool) → (eqb m mask && leb len 18) ≡ c → readOrAnew x b vs mask len bs ≡ cond c (take len bs) (print (layout x) (sendUpdate b vs))
-  either c t =
-      ap (λ (c : Bool). cond c (take len bs) (print (layout x) (sendUpdate b vs))) (ap (λ (k : ℕ). eqb k mask && leb len 18) (sym em) ∙ t)
-
-  pub kept-bytes : (eqb m mask && leb len 18) ≡ true → take len bs ≡ readOrAnew x b vs mask len bs
-  kept-bytes t = sym (either true t)
-
-  pub anew-bytes : (eqb m mask && leb len 18) ≡ false → print (layout x) (sendUpdate b vs) ≡ readOrAnew x b vs mask len bs
-  anew-bytes t = sym (either false t)
 
 module _ (e : ℕ) (u : Record) (o : Base) (p p₀ : PoseBits) (n h : ℕ) (ep : p ≡ bitsOf (u .pose)) (eo : p₀ ≡ bitsOf (o .pose))
     (eh : h ≡ highByte (updateBits e (u .bit5) (u .look) (u .effects) p (o .look) p₀))

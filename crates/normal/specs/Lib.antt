@@ -2,4 +2,3 @@ pub mod Put
 pub mod Sent
 pub mod Client
 pub mod Normal
-pub mod Kept

@@ -17,7 +17,6 @@ ghost use Rattle.normal.specs.Put.{Put, Behind};
 ghost use Rattle.normal.specs.Sent.{sentBytes, defaults, bitsOf, bitsValues, fieldValues, lookSlots, poseSlots, updateBits, headBytes};
 ghost use Rattle.normal.specs.Client.{motionBits, motionBitsValues, fourSlots, clientFields, countsBytes, suppliesBytes};
 ghost use Rattle.normal.specs.Normal.{vectorBytes, placeBytes, otherBytes, isSound};
-ghost use Rattle.normal.specs.Kept.{normalBits, readOrAnew};
 use message::Arms;
 use message::Look;
 use message::Message;
@@ -195,62 +194,6 @@ pub fn put_update(
     let n = low_byte(high, r.bit5, l, p, l0, p0);
     let q = put_head(out, at, n, high, entity);
     put_fields(out, q, l, r.effects, p, l0, p0)
-}
-
-// ---- an update as it was read
-
-// The bytes of the longest update.
-const UPDATE_SIZE: usize = 18;
-
-// An update's mask in normal form, with its number in the low byte.
-fn update_mask(entity: usize, r: Record, b: Baseline) -> u16
-    ensures { λ q. ⌜ q ≡ normalBits (baselineNumbers b) (number entity ∷ recordValues r) ⌝ }
-{
-    let l = r.look;
-    let l0 = b.look;
-    let p = pose_bits(r.pose);
-    let p0 = pose_bits(b.pose);
-    let high = high_byte(entity, l, r.effects, p, l0, p0);
-    let n = low_byte(high, r.bit5, l, p, l0, p0);
-    (high as u16) * 256 + (n as u16)
-}
-
-// At most so many bytes as they were read. As many as the longest update has are copied, whatever is behind.
-fn put_near(out: &mut [u8], at: usize, s: &[u8], from: usize, len: usize) -> usize
-    requires { ⌜ (at + 18 ≤ length (now out)) × (from + 18 ≤ length (now s)) × (len ≤ 18) ⌝ }
-    ensures { λ q. ⌜ Put (now (out .entry)) (now (out .exit)) at q (take len (drop from (now (s .entry)))) ⌝ }
-{
-    let mut k = 0;
-    while k < UPDATE_SIZE {
-        out[at + k] = s[from + k];
-        k += 1;
-    }
-    at + len
-}
-
-// An update that was read with this mask from so many bytes: these, if they are in normal form, and else anew.
-pub fn put_read_update(
-    on: bool,
-    out: &mut [u8],
-    at: usize,
-    s: &[u8],
-    from: usize,
-    len: usize,
-    mask: u16,
-    entity: usize,
-    r: Record,
-    b: Baseline,
-) -> usize
-    requires { ⌜ (at + 24 ≤ length (now out)) × (from + 18 ≤ length (now s)) ⌝ }
-    ensures { λ q. ⌜ ((x : Context) → Put (now (out .entry)) (now (out .exit)) at q (cond on (readOrAnew x (baselineNumbers b) (number entity ∷ recordValues r) mask len (drop from (now (s .entry)))) [])) ⌝ }
-{
-    if !on {
-        return at;
-    }
-    if (update_mask(entity, r, b) == mask) & (len <= UPDATE_SIZE) {
-        return put_near(out, at, s, from, len);
-    }
-    put_update(true, out, at, entity, r, b)
 }
 
 // ---- clientdata

@@ -172,7 +172,7 @@ pub fn write_blocks(
             if rest.ended {
                 return refused_in(given, blocks, start, 11, at, written);
             }
-            // Updates one after the other, as long as each is good and can be loaded whole.
+            // Updates one after the other, as long as each is good, can be loaded whole and, where it is written, is in normal form.
             while at < stop {
                 let k = d[at];
                 if k < 128 {
@@ -195,20 +195,9 @@ pub fn write_blocks(
                 }
                 let record = f.record;
                 let needless = f.needless | quick::needless_head(mask, i);
-                let w = normal::put_update_behind(
-                    on & needless,
-                    &mut body,
-                    size,
-                    s,
-                    kept,
-                    at,
-                    to,
-                    i,
-                    record,
-                    b,
-                );
-                size = w.size;
-                kept = w.kept;
+                if on & needless {
+                    break;
+                }
                 records[i] = record;
                 present[i] = true;
                 at = to;

@@ -93,14 +93,14 @@ abbrev μ-loop2 : tie.MeasureT-loop2
 
 -- The loop over updates inside it, which leaves the baselines and the rest as they are and does not go back.
 abbrev Inv-loop3 : tie.InvT-loop3
-Inv-loop3 d from most given on room out base baselines records₀ present₀ rest body₀ stores start blocks messages₀ written refusal h at₀ end s stop size₀ kept₀ records present body messages at size kept =
+Inv-loop3 d from most given on room out base baselines records₀ present₀ rest body stores start blocks messages₀ written refusal h at₀ end s stop size kept records present messages at =
     let angles = number (h .angle0) ∷ number (h .angle1) ∷ number (h .angle2) ∷ [] in
     Along (inside (sceneOf given) d on stores room base blocks (most - blocks - 1) start end angles written out) on s end
-    messages₀ (held baselines records₀ present₀ rest) (soFar on body₀ size₀ s kept₀ at₀) at₀ messages (held baselines records present rest) body at size kept
+    messages₀ (held baselines records₀ present₀ rest) (soFar on body size s kept at₀) at₀ messages (held baselines records present rest) body at size kept
     × (at₀ ≤ at)
 
 abbrev μ-loop3 : tie.MeasureT-loop3
-μ-loop3 d from most given on room out base baselines records₀ present₀ rest body₀ stores start blocks messages₀ written refusal h at₀ end s stop size₀ kept₀ records present body messages at size kept =
+μ-loop3 d from most given on room out base baselines records₀ present₀ rest body stores start blocks messages₀ written refusal h at₀ end s stop size kept records present messages at =
     length s - at
 
 -- The loop over blocks.
@@ -304,14 +304,14 @@ module _ {o : Opened} (p : Place o) where
     less : length (body o) - to < length (body o) - p .at
     less = moved-less (body o) (body-bytes o) (scene p) (p .at) t to form m
 
-    kept-step : form ≡ take (to - p .at) (drop (p .at) (body o)) → Step p t to (p .filled) (p .size) (p .kept)
+    kept-step : (begun (blockOf o) .args .on ≡ true → form ≡ take (to - p .at) (drop (p .at) (body o))) → Step p t to (p .filled) (p .size) (p .kept)
     kept-step e =
         let on = begun (blockOf o) .args .on in
         record {
           form = form;
           moved = m;
           grown = grown-kept on (body o) (p .filled) (p .size) (p .kept) (p .at) to form (p .reached .5) (omega (arith, less)) (omega (arith, p .inside))
-              (moved-short (body o) (body-bytes o) (scene p) (p .at) t to form m on) (λ q. e);
+              (moved-short (body o) (body-bytes o) (scene p) (p .at) t to form m on) e;
         }
 
     behind-step : (anew : Bool) → (anew ≡ true → begun (blockOf o) .args .on ≡ true)
@@ -352,7 +352,7 @@ abbrev AtRun : Type 0
 AtRun = tie.At-loop3 Inv-loop3 μ-loop3 Inv-loop2 μ-loop2 Inv-loop μ-loop
 
 reached : (c : AtRun)
-    → Reached (c .before .before .before .before .before) (c .loop3 .messages) (held (c .before .before .before .loop2 .baselines) (c .loop3 .records) (c .loop3 .present) (c .before .before .before .loop2 .rest)) (c .loop3 .body) (c .loop3 .at) (c .loop3 .size) (c .loop3 .kept)
+    → Reached (c .before .before .before .before .before) (c .loop3 .messages) (held (c .before .before .before .loop2 .baselines) (c .loop3 .records) (c .loop3 .present) (c .before .before .before .loop2 .rest)) (c .before .before .before .loop2 .body) (c .loop3 .at) (c .before .before .before .loop2 .size) (c .before .before .before .loop2 .kept)
 reached c =
     let i = c .loop3 .inv .0 in
     (i .0, i .1, i .2, i .3, c .before .before .before .loop2 .inv .4 ∙ i .4, i .5)
@@ -364,11 +364,11 @@ placeAt c l =
       records = c .loop3 .records;
       present = c .loop3 .present;
       rest = c .before .before .before .loop2 .rest;
-      filled = c .loop3 .body;
+      filled = c .before .before .before .loop2 .body;
       count = c .loop3 .messages;
       at = c .loop3 .at;
-      size = c .loop3 .size;
-      kept = c .loop3 .kept;
+      size = c .before .before .before .loop2 .size;
+      kept = c .before .before .before .loop2 .kept;
       reached = reached c;
       inside = l;
       going = c .before .if3 .left;
@@ -447,37 +447,34 @@ moves c =
     let o = ran (updateOf c) in
     omega (arith, moved-less (body o) (body-bytes o) (scene (update (updateOf c))) (updateOf c .before .loop3 .at) (updated c) (to c) (formAt c) (at-once c))
 
-step-once : (c : tie.After-put-update-behind Inv-loop3 μ-loop3 Inv-loop2 μ-loop2 Inv-loop μ-loop)
-    → let r = c .before .before .before .before in
+-- It stays as it was read: where it is written, nothing was sent needlessly.
+step-once : (c : tie.Else8 Inv-loop3 μ-loop3 Inv-loop2 μ-loop2 Inv-loop μ-loop)
+    → let r = c .before .before .before in
     let p = update (updateOf r) in
-    let q = c .put-update-behind .result in
-    let on = begun (blockOf (ran (updateOf r))) .args .on in
-    (filled : List ℕ) → ((x : Context) → Behind (on && (r .before .before .update-fields .result .needless || c .before .before .before .needless-head .result)) (p .filled) filled (p .size) (p .kept) (q .size) (q .kept) (to r) (take (p .at - p .kept) (drop (p .kept) (body (ran (updateOf r)))) ++ print (layout x) (sendUpdate (baselineNumbers (getD (p .baselines) (entity r) noBaseline)) (number (entity r) ∷ recordValues (r .before .before .update-fields .result .record)))))
-    → Step p (updated r) (to r) filled (q .size) (q .kept)
-step-once c filled w =
-    let r = c .before .before .before .before in
+    Step p (updated r) (to r) (p .filled) (p .size) (p .kept)
+step-once c =
+    let r = c .before .before .before in
     let p = update (updateOf r) in
     let o = ran (updateOf r) in
     let q = quick-here r in
     let f = r .before .before .update-fields .result in
-    let h = c .before .before .before .needless-head in
-    behind-step p (updated r) (to r) (formAt r) (at-once r) _ (λ e. and-true _ _ e .0)
-    (λ on e.
-    let n = or-false (f .needless) (h .result) (and-false _ _ on e) in
+    let h = c .before .before .needless-head in
+    kept-step p (updated r) (to r) (formAt r) (at-once r)
+    (λ on.
+    let n = or-false (f .needless) (h .result) (and-false _ _ on (c .if8 .left)) in
     kept-form (body o) (p .at) (p .inside) (p .baselines) (p .records) (p .present) (p .rest) (p .going) (kind (updateOf r)) (kind-there (updateOf r)) (r .before .before .before .before .before .before .before .if4 .left)
     (q .high) (entity r) (q .sent) (to r) (f .record) (q .parsed) (q .filled) (body-bytes o) (q .kept (n .0) (sym (h .ensures) ∙ n .1)))
-    filled _ _ (w (contextOf (scene p)))
 
 -- ---- where another message is to be read
 
 abbrev AtMessage : Type 0
-AtMessage = tie.Else8 Inv-loop3 μ-loop3 Inv-loop2 μ-loop2 Inv-loop μ-loop
+AtMessage = tie.Else9 Inv-loop3 μ-loop3 Inv-loop2 μ-loop2 Inv-loop μ-loop
 
 abbrev inBlock : AtMessage → Opened
 inBlock c = c .before .before .before .before .before .before .before
 
 abbrev message : (c : AtMessage) → Place (inBlock c)
-message c = placeAt (c .before .before) (c .if8 .left)
+message c = placeAt (c .before .before) (c .if9 .left)
 
 time-parsed : (c : tie.After-time-at Inv-loop3 μ-loop3 Inv-loop2 μ-loop2 Inv-loop μ-loop) → Parsed (message (c .before .before .before .before)) (number 7 ∷ number (c .time-at .result .value) ∷ []) (c .time-at .result .cursor)
 time-parsed c =
@@ -513,7 +510,7 @@ update-read : (c : tie.After-read-update Inv-loop3 μ-loop3 Inv-loop2 μ-loop2 I
 update-read c =
     let p = message (c .before .before .before .before) in
     let o = inBlock (c .before .before .before .before) in
-    update-parsed (body o) (p .at) (p .inside) (p .baselines) (p .records) (p .present) (p .rest) (p .going) (body-bytes o) _ refl (c .before .if11 .left)
+    update-parsed (body o) (p .at) (p .inside) (p .baselines) (p .records) (p .present) (p .rest) (p .going) (body-bytes o) _ refl (c .before .if12 .left)
     (c .read-update .result .update) (c .read-update .result .cursor) (c .read-update .ensures)
 
 -- The entity of a baseline, and of an update, is known.
@@ -523,16 +520,16 @@ baseline-index c =
     let o = inBlock (r .before .before .before .before .before) in
     let p = message (r .before .before .before .before .before) in
     baseline-known (body o) (p .at) (p .inside) (p .baselines) (p .records) (p .present) (p .rest) (p .going) (body-bytes o) _
-    (r .before .context2 .ensures _ _ _) (r .read-message .result .message) (r .read-message .result .cursor) (r .read-message .ensures) (c .before .before .before .before .before .if12 .left) _ _ _
+    (r .before .context2 .ensures _ _ _) (r .read-message .result .message) (r .read-message .result .cursor) (r .read-message .ensures) (c .before .before .before .before .before .if13 .left) _ _ _
     (c .message .given .1)
 
-update-index : (c : tie.Else13 Inv-loop3 μ-loop3 Inv-loop2 μ-loop2 Inv-loop μ-loop) → c .before .before .read-update .result .update .entity .0 < 449
+update-index : (c : tie.Else14 Inv-loop3 μ-loop3 Inv-loop2 μ-loop2 Inv-loop μ-loop) → c .before .before .read-update .result .update .entity .0 < 449
 update-index c =
     let r = c .before .before in
     let o = inBlock (r .before .before .before .before) in
     let p = message (r .before .before .before .before) in
-    update-known (body o) (p .at) (p .inside) (p .baselines) (p .records) (p .present) (p .rest) (p .going) (body-bytes o) _ refl (r .before .if11 .left)
-    (r .read-update .result .update) (r .read-update .result .cursor) (r .read-update .ensures) (c .if13 .left)
+    update-known (body o) (p .at) (p .inside) (p .baselines) (p .records) (p .present) (p .rest) (p .going) (body-bytes o) _ refl (r .before .if12 .left)
+    (r .read-update .result .update) (r .read-update .result .cursor) (r .read-update .ensures) (c .if14 .left)
 
 -- ---- where the arms meet
 
@@ -569,7 +566,7 @@ came c =
     (λ w. arrived c (k .baselines) (k .records) (replicate 449 false) (timed (k .rest) (w .2 .result .value)) (k .filled) (w .2 .result .cursor .at) (k .size) (k .kept) (w .5) (w .6) (w .7) (w .8) (w .9) (w .10) (w .11) (w .12)
     (kept-step k _ (w .2 .result .cursor .at) _
     (time-moved s (k .at) l (k .baselines) (k .records) (k .present) (k .rest) g h (w .2 .result .value) (w .2 .result .cursor)
-    (time-parsed (record { before = record { before = record { before = c .before; match = w .0 }; context = w .1 }; time-at = w .2 })) (w .4 .left)) refl))
+    (time-parsed (record { before = record { before = record { before = c .before; match = w .0 }; context = w .1 }; time-at = w .2 })) (w .4 .left)) (λ on. refl)))
     (⊎-elim
     (λ w.
     let r : tie.After-client-at Inv-loop3 μ-loop3 Inv-loop2 μ-loop2 Inv-loop μ-loop = record { before = record { before = c .before; match = w .0 }; client-at = w .1 } in
@@ -666,7 +663,7 @@ ended c =
     ∙ ap (λ (x : List ℕ). closed (sceneOf (a .given)) (input (blockOf o)) (a .on) (stores (blockOf o)) (a .room) (a .base) (l .blocks) (a .most - l .blocks - 1) (l .start) (end o) (angles o) (l .written) (l .out) (k .messages) (after c) (blockBytes (a .on) (angles o) x)) (sym (copying c .put-copy .ensures .0))
 
 -- The room is short for it.
-short : (c : tie.Then14 Inv-loop3 μ-loop3 Inv-loop2 μ-loop2 Inv-loop μ-loop) (r : WrittenAt) → Refuses (closing (c .before)) 12 (c .before .block-size .result) r → Answered (closing (c .before)) r
+short : (c : tie.Then15 Inv-loop3 μ-loop3 Inv-loop2 μ-loop2 Inv-loop μ-loop) (r : WrittenAt) → Refuses (closing (c .before)) 12 (c .before .block-size .result) r → Answered (closing (c .before)) r
 short c =
     let e = c .before in
     let o = closing e in
@@ -675,10 +672,10 @@ short c =
     refuse o 12 (e .block-size .result)
     (sym (ended e
     ∙ closed-short (sceneOf (a .given)) (input (blockOf o)) (a .on) (stores (blockOf o)) (a .room) (a .base) (l .blocks) _ (l .start) (end o) (angles o) (l .written) (l .out)
-    (left (copying e) .loop2 .messages) (after e) (formed e) (e .block-size .result) (formed-size e) (c .if14 .taken)))
+    (left (copying e) .loop2 .messages) (after e) (formed e) (e .block-size .result) (formed-size e) (c .if15 .taken)))
 
 -- There is room for it.
-goes-on : (c : tie.Else14 Inv-loop3 μ-loop3 Inv-loop2 μ-loop2 Inv-loop μ-loop)
+goes-on : (c : tie.Else15 Inv-loop3 μ-loop3 Inv-loop2 μ-loop2 Inv-loop μ-loop)
     → let e = c .before in
     let o = closing e in
     let a = begun (blockOf o) .args in
@@ -694,9 +691,9 @@ goes-on c =
     let l = blockOf o .before .loop in
     ended e
     ∙ closed-fits (sceneOf (a .given)) (input (blockOf o)) (a .on) (stores (blockOf o)) (a .room) (a .base) (l .blocks) _ (l .start) (end o) (angles o) (l .written) (l .out)
-    (left (copying e) .loop2 .messages) (after e) (formed e) (e .block-size .result) (formed-size e) (c .if14 .left)
+    (left (copying e) .loop2 .messages) (after e) (formed e) (e .block-size .result) (formed-size e) (c .if15 .left)
 
-room-there : (c : tie.Else14 Inv-loop3 μ-loop3 Inv-loop2 μ-loop2 Inv-loop μ-loop)
+room-there : (c : tie.Else15 Inv-loop3 μ-loop3 Inv-loop2 μ-loop2 Inv-loop μ-loop)
     → let a = begun (blockOf (closing (c .before))) .args in
     let l = blockOf (closing (c .before)) .before .loop in
     (a .on && stored (a .out .now) (a .base) (a .room)) ≡ true → a .base + l .written + 16 + sizeOf (copying (c .before)) ≤ length (l .out)
@@ -706,7 +703,7 @@ room-there c e =
     let l = blockOf (closing (c .before)) .before .loop in
     let b = and-true (a .on) (stored (a .out .now) (a .base) (a .room)) e in
     let n : c .before .block-size .result ≡ 16 + sizeOf (copying (c .before)) = c .before .block-size .ensures ∙ ap (λ (x : Bool). cond x (16 + sizeOf (copying (c .before))) 0) (b .0) in
-    omega (arith, n, c .if14 .left, leb-true (a .room) (length (a .out .now) - a .base) (b .1), l .inv .5, l .inv .6, s .pre .2)
+    omega (arith, n, c .if15 .left, leb-true (a .room) (length (a .out .now) - a .base) (b .1), l .inv .5, l .inv .6, s .pre .2)
 
 -- What the room holds then.
 abbrev AtStored : Type 0
@@ -828,39 +825,33 @@ update-fields-requires c κs = omega (arith, c .before .before .before .update-h
 needless-head-requires : tie.Need-needless-head-requires Inv-loop3 μ-loop3 Inv-loop2 μ-loop2 Inv-loop μ-loop
 needless-head-requires c κs = search needs
 
-slice-aggregate-put-update-behind : tie.Need-slice-aggregate-put-update-behind Inv-loop3 μ-loop3 Inv-loop2 μ-loop2 Inv-loop μ-loop
-slice-aggregate-put-update-behind c = sym (update (updateOf (c .before .before .before)) .reached .2)
-
-put-update-behind-requires : tie.Need-put-update-behind-requires Inv-loop3 μ-loop3 Inv-loop2 μ-loop2 Inv-loop μ-loop
-put-update-behind-requires c κs = room-for (update (updateOf (c .before .before .before))) 24 (omega arith)
-
 mul-records : tie.Need-mul-records Inv-loop3 μ-loop3 Inv-loop2 μ-loop2 Inv-loop μ-loop
-mul-records c = omega (arith, c .before .before .before .before .before .before .before .before .before .before .if5 .left)
+mul-records c = omega (arith, c .before .before .before .before .before .before .before .before .if5 .left)
 
 array-set-from-records : tie.Need-array-set-from-records Inv-loop3 μ-loop3 Inv-loop2 μ-loop2 Inv-loop μ-loop
-array-set-from-records c = c .before .before .before .before .before .before .before .before .before .before .if5 .left
+array-set-from-records c = c .before .before .before .before .before .before .before .before .if5 .left
 
 array-write-present : tie.Need-array-write-present Inv-loop3 μ-loop3 Inv-loop2 μ-loop2 Inv-loop μ-loop
-array-write-present c = c .before .before .before .before .before .before .before .before .before .before .if5 .left
+array-write-present c = c .before .before .before .before .before .before .before .before .if5 .left
 
 add-messages : tie.Need-add-messages Inv-loop3 μ-loop3 Inv-loop2 μ-loop2 Inv-loop μ-loop
-add-messages c = counts (update (updateOf (c .before .before .before .before .before)))
+add-messages c = counts (update (updateOf (c .before .before .before)))
 
 loop3-less : tie.Need-loop3-less Inv-loop3 μ-loop3 Inv-loop2 μ-loop2 Inv-loop μ-loop
 loop3-less c =
-    let r = c .before .before .before .before .before in
+    let r = c .before .before .before in
     let o = ran (updateOf r) in
     moved-less (body o) (body-bytes o) (scene (update (updateOf r))) (updateOf r .before .loop3 .at) (updated r) (to r) (formAt r) (at-once r)
 
 loop3-again : tie.Need-loop3-again Inv-loop3 μ-loop3 Inv-loop2 μ-loop2 Inv-loop μ-loop
 loop3-again c =
-    let r = c .before .before .before .before .before in
+    let r = c .before .before .before in
     let i = updateOf r .before .loop3 .inv in
-    let q = step-on (update (updateOf r)) (updated r) (to r) _ _ _ (step-once (c .before) _ (c .before .put-update-behind .ensures)) in
+    let q = step-on (update (updateOf r)) (updated r) (to r) _ _ _ (step-once c) in
     ((q .0, q .1, q .2, q .3, i .0 .4 ∙ q .4, q .5), omega (arith, i .1, moves r))
 
 loop2-less : tie.Need-loop2-less Inv-loop3 μ-loop3 Inv-loop2 μ-loop2 Inv-loop μ-loop
-loop2-less c = omega (arith, c .if8 .taken, c .before .before .before .before .loop2-test .taken)
+loop2-less c = omega (arith, c .if9 .taken, c .before .before .before .before .loop2-test .taken)
 
 loop2-again : tie.Need-loop2-again Inv-loop3 μ-loop3 Inv-loop2 μ-loop2 Inv-loop μ-loop
 loop2-again c = reached (c .before .before)
@@ -868,8 +859,8 @@ loop2-again c = reached (c .before .before)
 shared-slice-read-k-2 : tie.Need-shared-slice-read-k-2 Inv-loop3 μ-loop3 Inv-loop2 μ-loop2 Inv-loop μ-loop
 shared-slice-read-k-2 c = search needs
 
-add-t81 : tie.Need-add-t81 Inv-loop3 μ-loop3 Inv-loop2 μ-loop2 Inv-loop μ-loop
-add-t81 c = place-fits (message (c .before))
+add-t80 : tie.Need-add-t80 Inv-loop3 μ-loop3 Inv-loop2 μ-loop2 Inv-loop μ-loop
+add-t80 c = place-fits (message (c .before))
 
 context-requires : tie.Need-context-requires Inv-loop3 μ-loop3 Inv-loop2 μ-loop2 Inv-loop μ-loop
 context-requires c κs = search needs
@@ -885,7 +876,7 @@ same-length-2 c = blockOf (inBlock (c .before .before .before .before .before .b
 
 returns-2 : tie.Need-returns-2 Inv-loop3 μ-loop3 Inv-loop2 μ-loop2 Inv-loop μ-loop
 returns-2 c =
-    refuse-parsed (message (c .before .before .before .before .before .before .before)) _ (c .before .before .before .time-at .result .cursor) (time-parsed (c .before .before .before)) (c .before .if9 .taken) (c .refused-in2 .result) (c .refused-in2 .ensures)
+    refuse-parsed (message (c .before .before .before .before .before .before .before)) _ (c .before .before .before .time-at .result .cursor) (time-parsed (c .before .before .before)) (c .before .if10 .taken) (c .refused-in2 .result) (c .refused-in2 .ensures)
 
 add-client-at : tie.Need-add-client-at Inv-loop3 μ-loop3 Inv-loop2 μ-loop2 Inv-loop μ-loop
 add-client-at c = place-fits (message (c .before .before))
@@ -901,7 +892,7 @@ same-length-3 c = blockOf (inBlock (c .before .before .before .before .before .b
 
 returns-3 : tie.Need-returns-3 Inv-loop3 μ-loop3 Inv-loop2 μ-loop2 Inv-loop μ-loop
 returns-3 c =
-    refuse-parsed (message (c .before .before .before .before .before .before)) _ (c .before .before .before .client-at .result .cursor) (client-parsed (c .before .before .before)) (c .before .if10 .taken) (c .refused-in3 .result) (c .refused-in3 .ensures)
+    refuse-parsed (message (c .before .before .before .before .before .before)) _ (c .before .before .before .client-at .result .cursor) (client-parsed (c .before .before .before)) (c .before .if11 .taken) (c .refused-in3 .result) (c .refused-in3 .ensures)
 
 slice-aggregate-put-client-behind : tie.Need-slice-aggregate-put-client-behind Inv-loop3 μ-loop3 Inv-loop2 μ-loop2 Inv-loop μ-loop
 slice-aggregate-put-client-behind c = sym (message (c .before .before .before .before .before .before .before .before) .reached .2)
@@ -926,7 +917,7 @@ same-length-4 c = blockOf (inBlock (c .before .before .before .before .before .b
 
 returns-4 : tie.Need-returns-4 Inv-loop3 μ-loop3 Inv-loop2 μ-loop2 Inv-loop μ-loop
 returns-4 c =
-    refuse-parsed (message (c .before .before .before .before .before .before .before .before)) _ (c .before .before .before .read-message .result .cursor) (other-read (c .before .before .before)) (c .before .if12 .taken) (c .refused-in4 .result) (c .refused-in4 .ensures)
+    refuse-parsed (message (c .before .before .before .before .before .before .before .before)) _ (c .before .before .before .read-message .result .cursor) (other-read (c .before .before .before)) (c .before .if13 .taken) (c .refused-in4 .result) (c .refused-in4 .ensures)
 
 slice-aggregate-put-sound-behind : tie.Need-slice-aggregate-put-sound-behind Inv-loop3 μ-loop3 Inv-loop2 μ-loop2 Inv-loop μ-loop
 slice-aggregate-put-sound-behind c = sym (message (c .before .before .before .before .before .before .before .before) .reached .2)
@@ -967,7 +958,7 @@ same-length-5 c = blockOf (inBlock (c .before .before .before .before .before .b
 
 returns-5 : tie.Need-returns-5 Inv-loop3 μ-loop3 Inv-loop2 μ-loop2 Inv-loop μ-loop
 returns-5 c =
-    refuse-parsed (message (c .before .before .before .before .before .before .before)) _ (c .before .before .before .read-update .result .cursor) (update-read (c .before .before .before)) (c .before .if13 .taken) (c .refused-in5 .result) (c .refused-in5 .ensures)
+    refuse-parsed (message (c .before .before .before .before .before .before .before)) _ (c .before .before .before .read-update .result .cursor) (update-read (c .before .before .before)) (c .before .if14 .taken) (c .refused-in5 .result) (c .refused-in5 .ensures)
 
 cast-i-2 : tie.Need-cast-i-2 Inv-loop3 μ-loop3 Inv-loop2 μ-loop2 Inv-loop μ-loop
 cast-i-2 c = search needs
@@ -981,11 +972,11 @@ array-copy-out-b-2 c = update-index (c .before .before .before)
 fill-update-requires : tie.Need-fill-update-requires Inv-loop3 μ-loop3 Inv-loop2 μ-loop2 Inv-loop μ-loop
 fill-update-requires c κs = search needs
 
-slice-aggregate-put-update-behind-2 : tie.Need-slice-aggregate-put-update-behind-2 Inv-loop3 μ-loop3 Inv-loop2 μ-loop2 Inv-loop μ-loop
-slice-aggregate-put-update-behind-2 c = sym (message (c .before .before .before .before .before .before .before .before .before .before .before .before) .reached .2)
+slice-aggregate-put-update-behind : tie.Need-slice-aggregate-put-update-behind Inv-loop3 μ-loop3 Inv-loop2 μ-loop2 Inv-loop μ-loop
+slice-aggregate-put-update-behind c = sym (message (c .before .before .before .before .before .before .before .before .before .before .before .before) .reached .2)
 
-put-update-behind-requires-2 : tie.Need-put-update-behind-requires-2 Inv-loop3 μ-loop3 Inv-loop2 μ-loop2 Inv-loop μ-loop
-put-update-behind-requires-2 c κs = room-for (message (c .before .before .before .before .before .before .before .before .before .before .before .before)) _ (omega arith)
+put-update-behind-requires : tie.Need-put-update-behind-requires Inv-loop3 μ-loop3 Inv-loop2 μ-loop2 Inv-loop μ-loop
+put-update-behind-requires c κs = room-for (message (c .before .before .before .before .before .before .before .before .before .before .before .before)) _ (omega arith)
 
 mul-records-2 : tie.Need-mul-records-2 Inv-loop3 μ-loop3 Inv-loop2 μ-loop2 Inv-loop μ-loop
 mul-records-2 c = omega (arith, update-index (c .before .before .before .before .before .before .before .before))
@@ -1020,8 +1011,8 @@ put-copy-requires c κs =
 block-size-requires : tie.Need-block-size-requires Inv-loop3 μ-loop3 Inv-loop2 μ-loop2 Inv-loop μ-loop
 block-size-requires c κs = fits (c .before) .0
 
-sub-if14 : tie.Need-sub-if14 Inv-loop3 μ-loop3 Inv-loop2 μ-loop2 Inv-loop μ-loop
-sub-if14 c = c .before .before .before .before .before .before .before .before .before .before .before .before .before .loop .inv .5
+sub-if15 : tie.Need-sub-if15 Inv-loop3 μ-loop3 Inv-loop2 μ-loop2 Inv-loop μ-loop
+sub-if15 c = c .before .before .before .before .before .before .before .before .before .before .before .before .before .loop .inv .5
 
 refused-in-requires-6 : tie.Need-refused-in-requires-6 Inv-loop3 μ-loop3 Inv-loop2 μ-loop2 Inv-loop μ-loop
 refused-in-requires-6 c κs = search needs
@@ -1041,7 +1032,7 @@ store-block-requires c κs =
     (room-there (c .before .before), omega (arith, f), f .0)
 
 add-written : tie.Need-add-written Inv-loop3 μ-loop3 Inv-loop2 μ-loop2 Inv-loop μ-loop
-add-written c = omega (arith, c .before .before .before .before .before .if14 .left, c .before .before .before .before .before .before .before .before .before .before .before .before .before .before .before .before .before .before .before .loop .inv .5, c .before .before .before .before .before .before .before .before .before .before .before .before .before .before .before .before .before .before .before .before .before .before .before .before .before .before .fits .room)
+add-written c = omega (arith, c .before .before .before .before .before .if15 .left, c .before .before .before .before .before .before .before .before .before .before .before .before .before .before .before .before .before .before .before .loop .inv .5, c .before .before .before .before .before .before .before .before .before .before .before .before .before .before .before .before .before .before .before .before .before .before .before .before .before .before .fits .room)
 
 add-blocks : tie.Need-add-blocks Inv-loop3 μ-loop3 Inv-loop2 μ-loop2 Inv-loop μ-loop
 add-blocks c = omega (arith, more (c .before .before .before .before .before .before .before .before .before .before .before .before .before .before .before .before .before .before), c .before .before .before .before .before .before .before .before .before .before .before .before .before .before .before .before .before .before .before .before .before .before .before .before .before .before .fits .most)
@@ -1063,7 +1054,7 @@ loop-again c =
       omega (arith, k .inv .0),
       omega (arith, more (blockOf o)),
       k .inv .3,
-      omega (arith, e .if14 .left, l .inv .5),
+      omega (arith, e .if15 .left, l .inv .5),
       kept-length w _ (w .store-block .ensures) ∙ l .inv .6,
       fits (copying (e .before)) .1,
       goes-on e ∙ ap₂ (λ (x : List ℕ) (j : ℕ). wroteOf (sceneOf (a .given)) (length (input (blockOf o))) (stores (blockOf o)) (a .base) (l .blocks + 1) (k .messages) (l .written + e .before .block-size .result) x (runOf (a .on) j (a .room - (l .written + e .before .block-size .result)) (after (e .before)) (drop (end o) (input (blockOf o))))) (stored-there w _ (w .store-block .ensures)) n,
@@ -1129,8 +1120,6 @@ write-blocks-spec =
     array-copy-out-b
     update-fields-requires
     needless-head-requires
-    slice-aggregate-put-update-behind
-    put-update-behind-requires
     mul-records
     array-set-from-records
     array-write-present
@@ -1140,7 +1129,7 @@ write-blocks-spec =
     loop2-less
     loop2-again
     shared-slice-read-k-2
-    add-t81
+    add-t80
     context-requires
     time-at-requires
     refused-in-requires-2
@@ -1176,8 +1165,8 @@ write-blocks-spec =
     mul-b-2
     array-copy-out-b-2
     fill-update-requires
-    slice-aggregate-put-update-behind-2
-    put-update-behind-requires-2
+    slice-aggregate-put-update-behind
+    put-update-behind-requires
     mul-records-2
     array-set-from-records-2
     array-write-present-2
@@ -1187,7 +1176,7 @@ write-blocks-spec =
     slice-aggregate-put-copy
     put-copy-requires
     block-size-requires
-    sub-if14
+    sub-if15
     refused-in-requires-6
     same-length-6
     returns-6

@@ -4,10 +4,10 @@
 use mathlib.Core.Path.{_≡_, refl, sym, ap, ap₂, _∙_, subst}
 use mathlib.Core.Logic.{_≢_}
 use mathlib.Core.List.{List, [], _∷_, _++_, map, append-nil}
-use mathlib.Core.Bool.{Bool, true, false, cond, not, _&&_}
-use Prim.Native.Nat.{ℕ, _+_, _-_, _*_, _<_, _≤_}
+use mathlib.Core.Bool.{Bool, true, false, cond, not}
+use Prim.Native.Nat.{ℕ, _+_, _-_, _<_, _≤_}
 use native.Mathlib.Omega.{arith}
-use borrow.Author.Tests.{leb-true, leb-false, le-leb, eqb-true, eq-eqb}
+use borrow.Author.Tests.{leb-true, leb-false, le-leb, eq-eqb}
 use denote.Enum.Declared.{tagOf}
 use types.Run.{OneOf}
 use mir.Val.{hasKey}
@@ -19,7 +19,7 @@ use Rattle.dem.specs.Kind
 use Rattle.dem.specs.Limits.{entityCount}
 use Rattle.dem.specs.Bytes.{Bytes, Result, found, refused, mapResult}
 use Rattle.dem.specs.Layout.{Value, number, Layout, parse, print, tail, put}
-use Rattle.dem.specs.Scene.{Scene, Context, contextOf, cleared, baselineAt}
+use Rattle.dem.specs.Scene.{Scene, Context, contextOf, cleared}
 use Rattle.dem.specs.Message.{isMessage, isUpdate, numberRule, kindLayout, layout, layoutIn, updateLayout, fillUpdate, fillClient, fill, sendUpdate, sendClient, normal, apply}
 use Rattle.dem.specs.Codec.{normalBytes}
 use Rattle.dem.specs.Recording.{readMessage, writeMessage, messages}
@@ -27,7 +27,7 @@ use Rattle.dem.proofs.ResultLaws.{clash}
 use Rattle.dem.proofs.ByteLaws.{drop-bytes}
 use Rattle.dem.proofs.BlockLaws.{message-lawful}
 use Rattle.normal.specs.Normal.{soundOf, soundBytes, otherBytes}
-use Rattle.dem.proofs.LayoutLaws.{Allowed, and-true, parse-sound}
+use Rattle.dem.proofs.LayoutLaws.{Allowed}
 use Rattle.dem.proofs.AtLaws.{one-at, parse-good}
 use Rattle.dem.proofs.MessageLaws.{kind-update, fill-update, fill-client}
 use Rattle.dem.proofs.UpdateLaws.{entity-known, UpdateRead, update-read}
@@ -52,12 +52,12 @@ use Rattle.scene.specs.declared.Client.{Client}
 use Rattle.scene.specs.declared.Record.{Record}
 use Rattle.scene.specs.declared.Rest.{Rest}
 use Rattle.scene.proofs.Changes.{set-seen, seen-at}
-use Rattle.effects.proofs.Tables.{update-applied, matched, Tableless, not-among, tables-kept, rest-joined}
+use Rattle.effects.proofs.Tables.{update-applied, matched, not-among, tables-kept, rest-joined}
 use Rattle.reader.proofs.Arms.{update-arm}
 use Rattle.reader.proofs.Numbers.{is-message, rule-good}
 use Rattle.reader.proofs.Readings.{read-allowed, read-number, read-numbered, kind-read, message-parsed, message-ended, message-found, message-refused}
 use Rattle.quick.specs.Spread.{clientAt}
-use Rattle.blocks.proofs.Turns.{Moved, moved-less}
+use Rattle.blocks.proofs.Turns.{Moved}
 
 -- The scene of these parts.
 abbrev pub held : List Baseline → List Record → List Bool → Rest → Scene
@@ -194,9 +194,6 @@ module _ (s : List ℕ) (at : ℕ) (l : at < length s) (b : List Baseline) (e : 
           → (form : List ℕ) → normalBytes messages (held b e p x) vs ≡ form → Moved s (held b e p x) at t (c .at) form
       unfolding sceneWith
       parsed-moved z t f form g = record { values = vs; read = message-found (held b e p x) s at going vs c q z; scene = f; normal = g }
-
-      pub parsed-less : Bytes s → c .refusal ≡ 0 → length s - c .at < length s - at
-      parsed-less h z = moved-less s h (held b e p x) at _ (c .at) _ (parsed-moved z _ refl _ refl)
 
       -- The bytes that it was read from.
       pub parsed-bytes : Bytes s → c .refusal ≡ 0 → writeMessage (held b e p x) vs ≡ take (c .at - at) (drop at s)

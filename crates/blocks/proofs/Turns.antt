@@ -9,25 +9,25 @@ use native.Mathlib.Omega.{arith}
 use borrow.Author.Tests.{eq-eqb, ne-eqb, lt-ltb, le-ltb, ltb-true, ltb-false, leb-true, leb-false}
 use lib.Dec.{leb, ltb, eqb}
 use lib.ListN.{length, take, drop, getD, length-take, length-drop, length-append, drop-of-length-le}
-use lib.Seq.{take-nil, drop-cons, drop-drop, length-take-le, take-take, sets, length-sets}
+use lib.Seq.{take-nil, drop-cons, drop-drop, length-take-le, sets, length-sets}
 use Rattle.dem.specs.Bytes.{Bytes, Result, found, refused, mapResult, bind, leWrite}
 use Rattle.dem.specs.Layout.{Value, number, print}
 use Rattle.dem.specs.Scene.{Scene, inRange}
 use Rattle.dem.specs.Message.{Message, fill, apply}
-use Rattle.dem.specs.Codec.{after, Run, stopped, preceded, WrittenRun, silent, roomless, led, writeOn, writeMost, readMost, readAll, fillAll, applyAll, Each, writeNormal, normalAll, normalBytes}
+use Rattle.dem.specs.Codec.{after, stopped, WrittenRun, silent, roomless, led, writeOn, writeMost, readMost, readAll, fillAll, applyAll, Each, writeNormal, normalBytes}
 use Rattle.dem.specs.Recording.{readMessage, messages, Block, angleLayout, blockOf, readBefore, readBody, readBlock, writeBlock, normalBlock, fillBlock, applyBlock, blocks}
 use Rattle.dem.specs.Answer.{countMessages}
 use Rattle.dem.specs.WellFormed.{GoodMessage}
 use Rattle.dem.proofs.ResultLaws.{Ranged}
 use Rattle.dem.proofs.ByteLaws.{take-bytes, drop-bytes, le-length}
-use Rattle.dem.proofs.CodecLaws.{Taken, Lawful, afterAll, shrinks, read-next, all-ranged, all-sound, all-normal}
+use Rattle.dem.proofs.CodecLaws.{Taken, afterAll, shrinks, read-next, all-ranged, all-sound, all-normal}
 use Rattle.dem.proofs.BlockLaws.{message-lawful}
 use Rattle.dem.proofs.RangeLaws.{message-range}
 use Rattle.heads.specs.Heads.{headIn, headOf}
 use Rattle.heads.specs.declared.HeadAt.{HeadAt}
 use Rattle.heads.proofs.HeadLaws.{block-head}
 use Rattle.dem.proofs.ListLaws.{sets-append}
-use Rattle.blocks.specs.Runs.{Told, refusedIn, quickUntil, countedOf, toldOf, messageForm, blockForm, Wrote, put, toldWith, wroteOf, runOf}
+use Rattle.blocks.specs.Runs.{Told, refusedIn, quickUntil, countedOf, toldOf, messageForm, blockForm, Wrote, put, wroteOf, runOf}
 
 take-drop : (m n : ℕ) (l : List ℕ) → take m (drop n l) ≡ drop n (take (n + m) l)
 take-drop m zero l = let e : m ≡ 0 + m = omega arith in ap (λ (k : ℕ). take k l) e
@@ -35,11 +35,6 @@ take-drop m (suc n) [] = take-nil m ∙ sym (ap (drop (suc n)) (take-nil (suc n 
 take-drop m (suc n) (x ∷ l) =
     let e : suc n + m ≡ suc (n + m) = omega arith in
     take-drop m n l ∙ rw e
-
--- The first bytes from a place on, where they end before the bytes do.
-pub front-kept : (m n end : ℕ) (l : List ℕ) → n + m ≤ end → take m (drop n l) ≡ take m (drop n (take end l))
-front-kept m n end l h =
-    take-drop m n l ∙ ap (drop n) (sym (take-take (n + m) end l h)) ∙ sym (take-drop m n (take end l))
 
 -- A place before the one to which updates are loaded whole is inside the block, and 18 bytes of the input follow.
 pub before-stop : (len end stop at : ℕ) → stop ≡ quickUntil len end → at < stop → (at < end) × (at + 18 ≤ len)

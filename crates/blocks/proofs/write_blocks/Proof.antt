@@ -2,7 +2,7 @@
 -- block by its messages; each turn is one message, behind a run of updates each of which is one too, and the turns of a block are one block.
 -- Assumes nothing.
 use mathlib.Core.Path.{_≡_, refl, sym, ap, ap₂, _∙_, subst}
-use mathlib.Core.Bool.{Bool, true, false, cond, _&&_, _||_}
+use mathlib.Core.Bool.{Bool, true, false, cond, _&&_}
 use mathlib.Core.Logic.{⊎-elim}
 use Prim.Native.Nat.{ℕ, suc, _+_, _-_, _≤_, _<_}
 use native.Mathlib.Omega.{arith}
@@ -20,7 +20,7 @@ use Rattle.dem.specs.Bytes.{Bytes, Result, refused, leWrite}
 use Rattle.dem.specs.Kind
 use Rattle.dem.specs.Layout.{Value, number, print}
 use Rattle.dem.specs.Scene.{Scene, Context, contextOf, inRange}
-use Rattle.dem.specs.Message.{Message, isMessage, layout, layoutIn, sendUpdate, sendClient}
+use Rattle.dem.specs.Message.{Message, isMessage, layoutIn, sendUpdate, sendClient}
 use Rattle.wire.specs.Cursors.{gotten, parseAt}
 use Rattle.wire.specs.declared.Cursor.{Cursor}
 use Rattle.wire.proofs.Sticky.{here}
@@ -38,39 +38,15 @@ use Rattle.scene.specs.declared.Baseline.{Baseline}
 use Rattle.scene.specs.declared.Record.{Record}
 use Rattle.scene.specs.declared.Rest.{Rest}
 use Rattle.quick.proofs.QuickLaws.{QuickUpdate, quick-update}
-use Rattle.normal.specs.Put.{Put, Behind}
-use Rattle.normal.specs.Normal.{isSound}
+use Rattle.normal.specs.Put.{Behind}
 use Rattle.normal.proofs.SoundBytes.{kept-other}
 use Rattle.blocks.specs.Runs.{Told, refusedIn, answered, Wrote, stored, put, wroteOf, runOf, wrote}
 use Rattle.blocks.specs.declared.WrittenAt.{WrittenAt}
 use Rattle.blocks.proofs.SoFar.{and-false, or-false, soFar, far-begins, Grown, grown-kept, grown-behind}
-use Rattle.blocks.proofs.Turns.{Moved, front-kept, before-stop, head-refused, head-found, moved-less, moved-short, moved-range, blockBytes, block-length, put-block-there, put-length, closed, closed-short, closed-fits, inside, on-refused, on-moved, on-end, run-over, run-refused, run-opened}
-use Rattle.blocks.proofs.Arms.{held, noBaseline, quick-moved, kept-form, timed, ended-refused, kind-parsed, parsed-refused, parsed-less, update-parsed, update-known, update-moved, time-moved, ClientRead, client-read, kept-client, client-moved, other-parsed, baseline-known, baseline-moved, serverinfo-moved, rest-moved}
+use Rattle.blocks.proofs.Turns.{Moved, before-stop, head-refused, head-found, moved-less, moved-short, moved-range, blockBytes, block-length, put-block-there, put-length, closed, closed-short, closed-fits, inside, on-refused, on-moved, on-end, run-over, run-refused, run-opened}
+use Rattle.blocks.proofs.Arms.{held, noBaseline, quick-moved, kept-form, timed, ended-refused, kind-parsed, parsed-refused, update-parsed, update-known, update-moved, time-moved, ClientRead, client-read, kept-client, client-moved, other-parsed, baseline-known, baseline-moved, serverinfo-moved, rest-moved}
 use Rattle.blocks.proofs.write_blocks.Statement.{statement}
 use Rattle.blocks.proofs.write_blocks.Tie as tie
-use Rattle.blocks.proofs.write_blocks.Reads as reads
-use Rattle.blocks.proofs.write_blocks.Lts as lts
-use Rattle.blocks.proofs.block_size.Reads as block-size-reads
-use Rattle.blocks.proofs.context.Reads as context-reads
-use Rattle.blocks.proofs.quick_until.Reads as quick-until-reads
-use Rattle.blocks.proofs.refused_in.Reads as refused-in-reads
-use Rattle.blocks.proofs.store_block.Reads as store-block-reads
-use Rattle.heads.proofs.read_head.Reads as read-head-reads
-use Rattle.masked.proofs.read_update.Reads as read-update-reads
-use Rattle.normal.proofs.put_copy.Reads as put-copy-reads
-use Rattle.normal.proofs.put_client_behind.Reads as put-client-behind-reads
-use Rattle.normal.proofs.put_sound_behind.Reads as put-sound-behind-reads
-use Rattle.normal.proofs.put_update_behind.Reads as put-update-behind-reads
-use Rattle.plain.proofs.time_at.Reads as time-at-reads
-use Rattle.quick.proofs.client_at.Reads as client-at-reads
-use Rattle.quick.proofs.needless_head.Reads as needless-head-reads
-use Rattle.quick.proofs.update_fields.Reads as update-fields-reads
-use Rattle.quick.proofs.update_head.Reads as update-head-reads
-use Rattle.reader.proofs.read_message.Reads as read-message-reads
-use Rattle.scene.proofs.apply_rest.Reads as apply-rest-reads
-use Rattle.scene.proofs.cleared_scene.Reads as cleared-scene-reads
-use Rattle.scene.proofs.fill_update.Reads as fill-update-reads
-use Rattle.scene.proofs.with_client.Reads as with-client-reads
 
 -- Messages of a block from one place to another: the bounds that are kept, and that what is told and written from the one place on is what is
 -- told and written from the other on.

@@ -1,6 +1,6 @@
 -- `quick::client_fields` meets its contract: motion, items, arms and supplies follow the slots in turn.
 -- Assumes nothing.
-use mathlib.Core.Path.{_≡_, refl, _∙_}
+use mathlib.Core.Path.{_≡_, refl}
 use mathlib.Core.List.{_∷_, _++_}
 use Prim.Native.Nat.{_+_}
 use native.Mathlib.Omega.{arith}

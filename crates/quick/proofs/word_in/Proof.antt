@@ -1,6 +1,5 @@
 -- `quick::word_in` meets its contract: the second byte is the high one.
 -- Assumes nothing.
-use mathlib.Core.Path.{sym}
 use Prim.Native.Nat.{_+_}
 use native.Mathlib.Omega.{arith}
 use Rattle.dem.proofs.AtLaws.{two-at}

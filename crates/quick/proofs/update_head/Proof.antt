@@ -1,6 +1,6 @@
 -- `quick::update_head` meets its contract: the two bytes of the mask, then the one or two of the entity.
 -- Assumes nothing.
-use mathlib.Core.Path.{ap, ap₂}
+use mathlib.Core.Path.{ap, ap₂, _∙_}
 use Prim.Native.Nat.{ℕ, _+_, _*_}
 use native.Mathlib.Omega.{arith}
 use Rattle.dem.specs.Bytes.{bit}

@@ -1,5 +1,5 @@
-// An update's fields where enough bytes follow that each can be loaded before the mask says whether it is sent: no field needs a
-// branch of its own, and the place behind the last says whether all that were sent lie in the block.
+// Updates and clientdata where all the bytes that they could have are there: one test for them all, and then no field is tested for
+// being whole. The place behind the last says whether all that were sent lie in the block.
 ghost use mathlib.Core.Path.{_≡_};
 ghost use mathlib.Core.List.{[], _∷_, _++_};
 ghost use mathlib.Core.Bool.{false};

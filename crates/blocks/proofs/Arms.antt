@@ -53,7 +53,9 @@ use Rattle.scene.specs.declared.Record.{Record}
 use Rattle.scene.specs.declared.Rest.{Rest}
 use Rattle.scene.proofs.Changes.{set-seen, seen-at}
 use Rattle.effects.proofs.Tables.{update-applied, matched, not-among, tables-kept, rest-joined}
+use Rattle.reader.specs.Passed.{isPassed}
 use Rattle.reader.proofs.Arms.{update-arm}
+use Rattle.reader.proofs.Passing.{each-passed}
 use Rattle.reader.proofs.Numbers.{is-message, rule-good}
 use Rattle.reader.proofs.Readings.{read-allowed, read-number, read-numbered, kind-read, message-parsed, message-ended, message-found, message-refused}
 use Rattle.quick.specs.Spread.{clientAt}
@@ -141,6 +143,15 @@ other-form t f read (M.Track _ _) h w = w
 other-form t f read M.Sellscreen h w = w
 other-form t f read (M.Cutscene _) h w = w
 other-form t f read (M.Update u) h w = absurd (h .update u refl)
+
+-- A message that is passed changes nothing and is its own normal form.
+passed-still : (t : Scene) (us : List Value) (n : ℕ) → isPassed n ≡ true → apply t (fill t (number n ∷ us)) ≡ t
+unfolding apply fill
+passed-still t us = each-passed (λ (n : ℕ). apply t (fill t (number n ∷ us)) ≡ t) refl refl refl refl refl refl refl
+
+passed-form : (t : Scene) (us : List Value) (n : ℕ) → isPassed n ≡ true → normalBytes messages t (number n ∷ us) ≡ writeMessage t (number n ∷ us)
+unfolding normal fill writeMessage
+passed-form t us = each-passed (λ (n : ℕ). normalBytes messages t (number n ∷ us) ≡ writeMessage t (number n ∷ us)) refl refl refl refl refl refl refl
 
 -- Clientdata as it was sent, behind what was read and filled in.
 pub record ClientRead (s : List ℕ) (at : ℕ) (x : Context) (k : Client) (c : Cursor) : Type 0 where
@@ -323,6 +334,22 @@ module _ (s : List ℕ) (at : ℕ) (l : at < length s) (b : List Baseline) (e : 
         parsed-moved (number 15 ∷ us) c q z _
         (ap (apply (held b e p x)) filled ∙ sym (g (map baselineNumbers b) (map recordNumbers e) p))
         _ (ap (λ (m : List Value). print (layoutIn (held b e p x)) (normal (held b e p x) m)) filled)
+
+    -- ---- a message that is passed
+
+    pub passed-parsed : (n : ℕ) → isPassed n ≡ true → n ≡ getD s at 0 → (k : Context) → k ≡ contextOf (held b e p x) → (us : List Value) (c : Cursor)
+        → gotten s (number n ∷ us) c ≡ kindAt s (here (at + 1)) k n → gotten s (number n ∷ us) c ≡ parseAt s (here at) (layoutIn (held b e p x))
+    passed-parsed n y en k ek us c q =
+        kind-parsed n k (number n ∷ us) c en (each-passed (λ (m : ℕ). isMessage m ≡ true) refl refl refl refl refl refl refl n y)
+        (each-passed (λ (m : ℕ). m ≢ Kind.static) (λ z. omega arith) (λ z. omega arith) (λ z. omega arith) (λ z. omega arith) (λ z. omega arith) (λ z. omega arith) (λ z. omega arith) n y)
+        ek q
+
+    pub passed-moved : Bytes s → (n : ℕ) → isPassed n ≡ true → (us : List Value) (c : Cursor)
+        → gotten s (number n ∷ us) c ≡ parseAt s (here at) (layoutIn (held b e p x)) → c .refusal ≡ 0
+        → Moved s (held b e p x) at (held b e p x) (c .at) (take (c .at - at) (drop at s))
+    passed-moved h n y us c q z =
+        parsed-moved (number n ∷ us) c q z _ (passed-still (held b e p x) us n y)
+        _ (passed-form (held b e p x) us n y ∙ parsed-bytes (number n ∷ us) c q h z)
 
     -- ---- another message
 

@@ -194,7 +194,7 @@ pub fn write_blocks(
                     break;
                 }
                 let record = f.record;
-                let needless = f.needless | quick::needless_head(mask, i);
+                let needless = f.needless | q.needless;
                 if on & needless {
                     break;
                 }
@@ -213,6 +213,39 @@ pub fn write_blocks(
             };
             match k {
                 128..=255 => {
+                    // One that is to be put anew is loaded again, where all its bytes are there.
+                    if on & (at < stop) {
+                        let q = quick::update_head(d, at + 1, k);
+                        let i = q.entity;
+                        let mask = q.mask;
+                        if (i < 449) & (mask < 32768) {
+                            let b = baselines[i];
+                            let f = quick::update_fields(d, q.next, mask, b);
+                            let to = f.next;
+                            if to <= end {
+                                let record = f.record;
+                                let w = normal::put_update_behind(
+                                    true,
+                                    &mut body,
+                                    size,
+                                    s,
+                                    kept,
+                                    at,
+                                    to,
+                                    i,
+                                    record,
+                                    b,
+                                );
+                                size = w.size;
+                                kept = w.kept;
+                                records[i] = record;
+                                present[i] = true;
+                                at = to;
+                                messages += 1;
+                                continue;
+                            }
+                        }
+                    }
                     let u = masked::read_update(s, c, k);
                     let next = u.cursor;
                     let wrong = next.refusal;
@@ -280,6 +313,16 @@ pub fn write_blocks(
                     at = to;
                 }
                 _ => {
+                    if reader::is_passed(k) {
+                        let next = reader::pass_message(s, c, k, context(rest));
+                        let wrong = next.refusal;
+                        if wrong != 0 {
+                            return refused_in(given, blocks, start, wrong, at, written);
+                        }
+                        at = next.at;
+                        messages += 1;
+                        continue;
+                    }
                     let m = reader::read_message(s, at, context(rest));
                     let next = m.cursor;
                     let wrong = next.refusal;

@@ -5,6 +5,7 @@ use mathlib.Core.List.{List, [], _∷_, _++_}
 use mathlib.Core.Bool.{Bool, true, false, cond, not, _||_, _&&_}
 use Prim.Native.Nat.{ℕ, zero, suc, _+_, _*_, _/_, _%_, _^_, _<_, _≤_}
 use native.Mathlib.Omega.{arith}
+use borrow.Author.Tests.{lt-ltb, le-ltb, ne-eqb}
 use lib.Dec.{eqb, ltb}
 use lib.IntN.{ℤ}
 use lib.ListN.{length, take, drop, getD}
@@ -17,9 +18,8 @@ use Rattle.dem.specs.Masked.{Slot, Mask, isSent}
 use Rattle.dem.specs.Message.{highBit, wideBit}
 use Rattle.dem.proofs.ByteLaws.{bit-div}
 use Rattle.dem.proofs.AtLaws.{one-at, two-at}
-use Rattle.wire.proofs.Sticky.{set-not}
 use Rattle.wire.proofs.SignedLaws.{same-bits}
-use Rattle.masked.proofs.MaskLaws.{bit-test}
+use Rattle.masked.proofs.MaskLaws.{update-mask}
 use Rattle.quick.specs.Spread.{fieldOr, behind, needlessOr, spread, passed, needlessIn}
 use Rattle.quick.specs.Heads.{highAt, maskAt, entityWidth, headAt, needlessHead}
 use Rattle.quick.specs.declared.UpdateHead.{UpdateHead}
@@ -75,22 +75,37 @@ unfolding behind
 entity-behind q true = omega arith
 entity-behind q false = omega arith
 
-module _ (d : List ℕ) (at low h q m lo hi next : ℕ) where
-  pub head-made : q + 2 ≤ length d → h ≡ highAt d at low → q ≡ behind at (bit low highBit) 1 → m ≡ h * 256 + low → lo ≡ getD d q 0
+-- A byte sent needlessly is one that is sent and is 0, and so what it is the high byte of is below 256.
+byte-needless : (before : Bool) (d : List ℕ) (at : ℕ) (sent : Bool) (v x : ℕ) → v ≡ fieldOr d at sent 1 0 → (sent ≡ true → eqb v 0 ≡ ltb x 256)
+    → needlessOr before d at sent 1 0 ≡ (before || sent && ltb x 256)
+unfolding fieldOr needlessOr
+byte-needless before d at true v x e h = ap (λ (y : ℕ). before || eqb y 0) (sym e) ∙ ap (λ (y : Bool). before || y) (h refl)
+byte-needless true d at false v x e h = refl
+byte-needless false d at false v x e h = refl
+
+below : (v l : ℕ) → l < 256 → eqb v 0 ≡ ltb (v * 256 + l) 256
+below zero l h = sym (lt-ltb (0 * 256 + l) 256 (omega arith))
+below (suc v) l h = ne-eqb (suc v) 0 (λ z. omega arith) ∙ sym (le-ltb (suc v * 256 + l) 256 (omega arith))
+
+module _ (d : List ℕ) (at low h q m lo hi next : ℕ) (hn n : Bool) where
+  pub head-made : q + 2 ≤ length d → low < 256 → lo < 256 → h ≡ highAt d at low → q ≡ behind at (bit low highBit) 1 → m ≡ h * 256 + low → lo ≡ getD d q 0
       → hi ≡ fieldOr d (q + 1) (bit m wideBit) 1 0 → next ≡ behind (q + 1) (bit m wideBit) 1
-      → _≡_ {A = UpdateHead} (record { mask = m; entity = hi * 256 + lo; next = next }) (headAt d at low)
-  unfolding headAt
-  head-made l eh eq em elo ehi en =
+      → hn ≡ needlessOr false d at (bit low highBit) 1 0 → n ≡ needlessOr hn d (q + 1) (bit m wideBit) 1 0
+      → _≡_ {A = UpdateHead} (record { mask = m; entity = hi * 256 + lo; next = next; needless = n }) (headAt d at low)
+  unfolding headAt needlessHead
+  head-made l sl slo eh eq em elo ehi en ehn ef =
       let mask : m ≡ maskAt d at low = em ∙ ap (λ (x : ℕ). x * 256 + low) eh in
-      let entity = entity-read d q (bit m wideBit) hi lo l ehi elo
+      let entity : hi * 256 + lo ≡ leRead (take (entityWidth (maskAt d at low)) (drop (behind at (bit low highBit) 1) d)) =
+      entity-read d q (bit m wideBit) hi lo l ehi elo
       ∙ ap₂ (λ (q m : ℕ). leRead (take (entityWidth m) (drop q d))) eq mask in
       let place = en ∙ entity-behind q (bit m wideBit) ∙ ap₂ (λ (q m : ℕ). q + entityWidth m) eq mask in
-      λ i. record { mask = mask i; entity = entity i; next = place i }
-
--- Whether a byte of it was sent needlessly, by the tests that code makes.
-pub head-tested : (m e : ℕ) → (not (eqb (m % 2) 0) && ltb m 256 || not (eqb (m / 2 ^ 14 % 2) 0) && ltb e 256) ≡ needlessHead m e
-unfolding needlessHead bit
-head-tested m e = ap₂ (λ (x y : Bool). x && ltb m 256 || y && ltb e 256) (set-not (m % 2)) (bit-test m 14)
+      let zero-bit : bit low highBit ≡ bit m highBit = sym (ap (λ (x : ℕ). bit x highBit) em ∙ ap (λ (f : ℕ → Bool). f highBit) (update-mask h low sl)) in
+      let first : hn ≡ (bit m highBit && ltb m 256) =
+      ehn ∙ byte-needless false d at (bit low highBit) h m eh (λ z. below h low sl ∙ ap (λ (x : ℕ). ltb x 256) (sym em)) ∙ ap (λ (b : Bool). b && ltb m 256) zero-bit in
+      let flag : n ≡ needlessHead m (hi * 256 + lo) =
+      ef ∙ byte-needless hn d (q + 1) (bit m wideBit) hi (hi * 256 + lo) ehi (λ z. below hi lo slo)
+      ∙ ap (λ (b : Bool). b || bit m wideBit && ltb (hi * 256 + lo) 256) first in
+      λ i. record { mask = mask i; entity = entity i; next = place i; needless = (flag ∙ ap₂ needlessHead mask entity) i }
 
 -- ---- slots in turn
 

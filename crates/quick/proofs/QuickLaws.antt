@@ -99,7 +99,7 @@ pub record QuickUpdate (d : List ℕ) (end at n : ℕ) (b : Baseline) (h : Updat
   pub parsed : parse (updateLayout n) (drop at (take end d)) ≡ found (number high ∷ number (h .entity) ∷ sent) (drop (f .next) (take end d))
   pub filled : fillUpdate (baselineNumbers b) n (number high ∷ number (h .entity) ∷ sent)
       ≡ number Kind.update ∷ number (h .entity) ∷ recordValues (f .record)
-  pub kept : f .needless ≡ false → needlessHead (h .mask) (h .entity) ≡ false
+  pub kept : f .needless ≡ false → h .needless ≡ false
       → sendUpdate (baselineNumbers b) (number (h .entity) ∷ recordValues (f .record)) ≡ number n ∷ number high ∷ number (h .entity) ∷ sent
 
 module _ (d : List ℕ) (end at n : ℕ) (b : Baseline) (inside : end ≤ length d) (small : n < 256) where
@@ -203,7 +203,7 @@ module _ (d : List ℕ) (end at n : ℕ) (b : Baseline) (inside : end ≤ length
             λ none needed.
             ap₂ (λ (e : ℕ) (vs : List Value). sendUpdate (baselineNumbers b) (number e ∷ vs)) ee
             (ev ∙ ap₂ (λ (m x : ℕ). filledAt d (baselineNumbers b) m x) em ex)
-            ∙ head-kept update (rw em at low) (rw ef at l) bytes (ap₂ needlessHead (sym em) (sym ee) ∙ needed)
+            ∙ head-kept update (rw em at low) (rw ef at l) bytes (sym (ap (λ (h : UpdateHead). h .needless) eh) ∙ needed)
             (ap₂ (λ (m x : ℕ). needlessIn d slots (bit m) x false) (sym em) (sym ex) ∙ sym eo ∙ none)
             ∙ ap (λ (e : ℕ). number n ∷ number high ∷ number e ∷ sent d slots (bit mask) next) (sym ee);
       }

@@ -20,13 +20,14 @@ maskAt d at low = highAt d at low * 256 + low
 abbrev pub entityWidth : ℕ → ℕ
 entityWidth mask = suc (bitOf (bit mask wideBit))
 
-unfoldable pub headAt : List ℕ → ℕ → ℕ → UpdateHead
-headAt d at low =
-    let w = entityWidth (maskAt d at low) in
-    let q = behind at (bit low highBit) 1 in
-    record { mask = maskAt d at low; entity = leRead (take w (drop q d)); next = q + w }
-
 -- Whether a mask, with the number in its low byte, is sent with a byte of high bits that is 0, or an entity in two bytes that has room
 -- in one.
 unfoldable pub needlessHead : ℕ → ℕ → Bool
 needlessHead mask entity = bit mask highBit && ltb mask 256 || bit mask wideBit && ltb entity 256
+
+unfoldable pub headAt : List ℕ → ℕ → ℕ → UpdateHead
+headAt d at low =
+    let w = entityWidth (maskAt d at low) in
+    let q = behind at (bit low highBit) 1 in
+    let entity = leRead (take w (drop q d)) in
+    record { mask = maskAt d at low; entity = entity; next = q + w; needless = needlessHead (maskAt d at low) entity }

@@ -14,6 +14,7 @@ use Rattle.parts.specs.Kinds.{kindAt}
 use Rattle.message.specs.declared.Look.{Look}
 use Rattle.message.specs.declared.Pose.{Pose}
 use Rattle.message.specs.Values.{lookValues, poseValues}
+use Rattle.quick.specs.declared.LookOr.{LookOr}
 
 -- The number of w bytes at a place, where it is sent, or else another.
 unfoldable pub fieldOr : List ℕ → ℕ → Bool → ℕ → ℕ → ℕ
@@ -49,6 +50,9 @@ lookSlots l = take 5 (updateSlots (numbers (lookValues l)))
 
 abbrev pub poseSlots : Pose → List Slot
 poseSlots p = drop 5 (updateSlots (0 ∷ 0 ∷ 0 ∷ 0 ∷ numbers (poseValues p)))
+
+abbrev pub lookOf : LookOr → List Value
+lookOf r = number (r .model) ∷ number (r .frame) ∷ number (r .colormap) ∷ number (r .skin) ∷ number (r .effects) ∷ []
 
 -- The values of a record: bit 5, then the fields.
 abbrev pub filledAt : List ℕ → Baseline → ℕ → ℕ → List Value

@@ -15,10 +15,10 @@ ghost use Rattle.dem.specs.Scene.{Context};
 ghost use Rattle.dem.specs.Message.{updateSlots, clientSlots, sendClient};
 ghost use Rattle.wire.specs.Cursors.{gotten};
 ghost use Rattle.parts.specs.Kinds.{kindAt};
-ghost use Rattle.message.specs.Values.{lookValues, poseValues, motionValues, armsValues, suppliesValues};
+ghost use Rattle.message.specs.Values.{poseValues, motionValues, armsValues, suppliesValues};
 ghost use Rattle.scene.specs.Views.{baselineNumbers, recordValues, clientValues};
-ghost use Rattle.quick.specs.Spread.{fieldOr, behind, needlessOr, spread, passed, needlessIn, lookSlots, poseSlots, filledAt, suppliesSlots, clientFields, clientIn, clientAt};
-ghost use Rattle.quick.specs.Heads.{headAt, needlessHead};
+ghost use Rattle.quick.specs.Spread.{fieldOr, behind, needlessOr, spread, passed, needlessIn, lookSlots, lookOf, poseSlots, filledAt, suppliesSlots, clientFields, clientIn, clientAt};
+ghost use Rattle.quick.specs.Heads.{headAt};
 use message::Arms;
 use message::Look;
 use message::Motion;
@@ -134,7 +134,10 @@ fn short_or(d: &[u8], at: usize, mask: u16, k: u16, other: i16, needless: bool) 
 // ---- the fields of a record
 
 struct LookOr {
-    look: Look,
+    model: u8,
+    frame: u8,
+    colormap: u8,
+    skin: u8,
     effects: u8,
     next: usize,
     needless: bool,
@@ -147,26 +150,23 @@ struct PoseOr {
 }
 
 // A look, then effects, of which each is sent or not.
-fn every_look(d: &[u8], at: usize, mask: u16, other: Look) -> LookOr
+fn every_look(d: &[u8], at: usize, mask: u16, b: Baseline) -> LookOr
     requires { ⌜ at + 5 ≤ length (now d) ⌝ }
-    ensures { λ r. ⌜ lookValues (r .look) ++ (number (r .effects) ∷ []) ≡ spread (now (d .entry)) (lookSlots other) (bit mask) at ⌝ }
-    ensures place { λ r. ⌜ r .next ≡ passed (lookSlots other) (bit mask) at ⌝ }
-    ensures flag { λ r. ⌜ r .needless ≡ needlessIn (now (d .entry)) (lookSlots other) (bit mask) at false ⌝ }
+    ensures { λ r. ⌜ lookOf r ≡ spread (now (d .entry)) (lookSlots (b .look)) (bit mask) at ⌝ }
+    ensures place { λ r. ⌜ r .next ≡ passed (lookSlots (b .look)) (bit mask) at ⌝ }
+    ensures flag { λ r. ⌜ r .needless ≡ needlessIn (now (d .entry)) (lookSlots (b .look)) (bit mask) at false ⌝ }
     ensures near { λ r. ⌜ r .next ≤ at + 5 ⌝ }
 {
-    let m = byte_or(d, at, mask, 10, other.model, false);
-    let f = byte_or(d, m.next, mask, 6, other.frame, m.needless);
-    let c = byte_or(d, f.next, mask, 11, other.colormap, f.needless);
-    let s = byte_or(d, c.next, mask, 12, other.skin, c.needless);
+    let m = byte_or(d, at, mask, 10, b.look.model, false);
+    let f = byte_or(d, m.next, mask, 6, b.look.frame, m.needless);
+    let c = byte_or(d, f.next, mask, 11, b.look.colormap, f.needless);
+    let s = byte_or(d, c.next, mask, 12, b.look.skin, c.needless);
     let e = byte_or(d, s.next, mask, 13, 0, s.needless);
-    let look = Look {
+    LookOr {
         model: m.value,
         frame: f.value,
         colormap: c.value,
         skin: s.value,
-    };
-    LookOr {
-        look,
         effects: e.value,
         next: e.next,
         needless: e.needless,
@@ -174,29 +174,26 @@ fn every_look(d: &[u8], at: usize, mask: u16, other: Look) -> LookOr
 }
 
 // The same. Of these only the frame is sent often: where none of the others is, they are passed over at once.
-fn look_or(d: &[u8], at: usize, mask: u16, other: Look) -> LookOr
+fn look_or(d: &[u8], at: usize, mask: u16, b: Baseline) -> LookOr
     requires { ⌜ at + 5 ≤ length (now d) ⌝ }
-    ensures { λ r. ⌜ lookValues (r .look) ++ (number (r .effects) ∷ []) ≡ spread (now (d .entry)) (lookSlots other) (bit mask) at ⌝ }
-    ensures place { λ r. ⌜ r .next ≡ passed (lookSlots other) (bit mask) at ⌝ }
-    ensures flag { λ r. ⌜ r .needless ≡ needlessIn (now (d .entry)) (lookSlots other) (bit mask) at false ⌝ }
+    ensures { λ r. ⌜ lookOf r ≡ spread (now (d .entry)) (lookSlots (b .look)) (bit mask) at ⌝ }
+    ensures place { λ r. ⌜ r .next ≡ passed (lookSlots (b .look)) (bit mask) at ⌝ }
+    ensures flag { λ r. ⌜ r .needless ≡ needlessIn (now (d .entry)) (lookSlots (b .look)) (bit mask) at false ⌝ }
     ensures near { λ r. ⌜ r .next ≤ at + 5 ⌝ }
 {
     if (mask >> 10) % 16 == 0 {
-        let f = byte_or(d, at, mask, 6, other.frame, false);
-        let look = Look {
-            model: other.model,
-            frame: f.value,
-            colormap: other.colormap,
-            skin: other.skin,
-        };
+        let f = byte_or(d, at, mask, 6, b.look.frame, false);
         return LookOr {
-            look,
+            model: b.look.model,
+            frame: f.value,
+            colormap: b.look.colormap,
+            skin: b.look.skin,
             effects: 0,
             next: f.next,
             needless: f.needless,
         };
     }
-    every_look(d, at, mask, other)
+    every_look(d, at, mask, b)
 }
 
 fn pose_or(d: &[u8], at: usize, mask: u16, other: Pose, needless: bool) -> PoseOr
@@ -228,13 +225,16 @@ fn pose_or(d: &[u8], at: usize, mask: u16, other: Pose, needless: bool) -> PoseO
 
 // ---- an update
 
+// Mask and entity, the place behind them, and whether one of their bytes was sent needlessly: a byte of high mask bits that is 0, or a second
+// byte of the entity that is 0.
 pub struct UpdateHead {
     pub mask: u16,
     pub entity: usize,
     pub next: usize,
+    pub needless: bool,
 }
 
-// Mask and entity of the update with the number `low`, from behind the number on; nothing is refused.
+// The head of the update with the number `low`, from behind the number on; nothing is refused.
 pub fn update_head(d: &[u8], at: usize, low: u8) -> UpdateHead
     requires { ⌜ at + 3 ≤ length (now d) ⌝ }
     ensures { λ r. ⌜ r ≡ headAt (now (d .entry)) at low ⌝ }
@@ -244,19 +244,13 @@ pub fn update_head(d: &[u8], at: usize, low: u8) -> UpdateHead
     let mask = wide(h.value) * 256 + wide(low);
     let q = h.next;
     let lo = d[q];
-    let hi = byte_or(d, q + 1, mask, 14, 0, false);
+    let hi = byte_or(d, q + 1, mask, 14, 0, h.needless);
     UpdateHead {
         mask,
         entity: (wide(hi.value) * 256 + wide(lo)) as usize,
         next: hi.next,
+        needless: hi.needless,
     }
-}
-
-// Whether the byte of high mask bits, or the second of the entity, was sent needlessly.
-pub fn needless_head(mask: u16, entity: usize) -> bool
-    ensures { λ r. ⌜ r ≡ needlessHead mask entity ⌝ }
-{
-    ((mask % 2 != 0) & (mask < 256)) | (((mask >> 14) % 2 != 0) & (entity < 256))
 }
 
 // Also whether a field was sent needlessly.
@@ -273,16 +267,21 @@ pub fn update_fields(d: &[u8], at: usize, mask: u16, b: Baseline) -> RecordAt
     ensures place { λ r. ⌜ r .next ≡ passed (updateSlots (baselineNumbers b)) (bit mask) at ⌝ }
     ensures flag { λ r. ⌜ r .needless ≡ needlessIn (now (d .entry)) (updateSlots (baselineNumbers b)) (bit mask) at false ⌝ }
 {
-    let l = look_or(d, at, mask, b.look);
+    let l = look_or(d, at, mask, b);
     let p = pose_or(d, l.next, mask, b.pose, l.needless);
-    let look = l.look;
+    let look = b.look;
     let pose = p.pose;
-    let record = Record {
+    let mut record = Record {
         bit5: (mask >> 5) % 2 != 0,
         look,
         effects: l.effects,
         pose,
     };
+    // Each by itself: a look that is copied whole is taken apart and put together again as one number.
+    record.look.model = l.model;
+    record.look.frame = l.frame;
+    record.look.colormap = l.colormap;
+    record.look.skin = l.skin;
     RecordAt {
         record,
         next: p.next,

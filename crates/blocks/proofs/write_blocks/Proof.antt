@@ -16,16 +16,17 @@ use lib.Dec.{ltb}
 use borrow.Author.Tests.{leb-true, ltb-true}
 use mathlib.Core.Logic.{_≢_}
 use mathlib.Core.List.{List, [], _∷_, _++_}
-use Rattle.dem.specs.Bytes.{Bytes, Result, refused, leWrite}
+use Rattle.dem.specs.Bytes.{Bytes, Result, refused, leWrite, bit}
 use Rattle.dem.specs.Kind
 use Rattle.dem.specs.Layout.{Value, number, print}
 use Rattle.dem.specs.Scene.{Scene, Context, contextOf, inRange}
-use Rattle.dem.specs.Message.{Message, isMessage, layoutIn, sendUpdate, sendClient}
+use Rattle.dem.specs.Limits.{entityCount}
+use Rattle.dem.specs.Message.{Message, isMessage, layoutIn, updateSlots, sendUpdate, sendClient}
 use Rattle.wire.specs.Cursors.{gotten, parseAt}
 use Rattle.wire.specs.declared.Cursor.{Cursor}
 use Rattle.wire.proofs.Sticky.{here}
 use Rattle.message.specs.Values.{valuesOf, updateValues}
-use Rattle.parts.specs.Kinds.{kindAt}
+use Rattle.parts.specs.Kinds.{kindAt, contextOf as numbersOf}
 use Rattle.dem.specs.Codec.{readAll}
 use Rattle.dem.specs.Recording.{angleLayout, readMessage, messages, readBlock}
 use Rattle.dem.proofs.ResultLaws.{clash}
@@ -37,14 +38,20 @@ use Rattle.scene.specs.Views.{sceneWith, sceneOf, baselineNumbers, recordValues
 use Rattle.scene.specs.declared.Baseline.{Baseline}
 use Rattle.scene.specs.declared.Record.{Record}
 use Rattle.scene.specs.declared.Rest.{Rest}
+use Rattle.quick.specs.Spread.{filledAt, passed, needlessIn}
+use Rattle.quick.specs.Heads.{headAt}
+use Rattle.quick.specs.declared.UpdateHead.{UpdateHead}
+use Rattle.quick.specs.declared.RecordAt.{RecordAt}
 use Rattle.quick.proofs.QuickLaws.{QuickUpdate, quick-update}
+use Rattle.reader.specs.Passed.{isPassed}
+use Rattle.reader.proofs.Passing.{Passed, passed-read}
 use Rattle.normal.specs.Put.{Behind}
 use Rattle.normal.proofs.SoundBytes.{kept-other}
 use Rattle.blocks.specs.Runs.{Told, refusedIn, answered, Wrote, stored, put, wroteOf, runOf, wrote}
 use Rattle.blocks.specs.declared.WrittenAt.{WrittenAt}
 use Rattle.blocks.proofs.SoFar.{and-false, or-false, soFar, far-begins, Grown, grown-kept, grown-behind}
 use Rattle.blocks.proofs.Turns.{Moved, before-stop, head-refused, head-found, moved-less, moved-short, moved-range, blockBytes, block-length, put-block-there, put-length, closed, closed-short, closed-fits, inside, on-refused, on-moved, on-end, run-over, run-refused, run-opened}
-use Rattle.blocks.proofs.Arms.{held, noBaseline, quick-moved, kept-form, timed, ended-refused, kind-parsed, parsed-refused, update-parsed, update-known, update-moved, time-moved, ClientRead, client-read, kept-client, client-moved, other-parsed, baseline-known, baseline-moved, serverinfo-moved, rest-moved}
+use Rattle.blocks.proofs.Arms.{held, noBaseline, quick-moved, kept-form, timed, ended-refused, kind-parsed, parsed-refused, update-parsed, update-known, update-moved, time-moved, ClientRead, client-read, kept-client, client-moved, passed-parsed, passed-moved, other-parsed, baseline-known, baseline-moved, serverinfo-moved, rest-moved}
 use Rattle.blocks.proofs.write_blocks.Statement.{statement}
 use Rattle.blocks.proofs.write_blocks.Tie as tie
 
@@ -115,8 +122,11 @@ whole c =
     let a = begun c .args in
     wroteOf (sceneOf (a .given)) (length (input c)) (stores c) (a .base) 0 0 0 (a .out .now) (runOf (a .on) (a .most) (a .room) (sceneOf (a .given)) (drop (a .from) (input c)))
 
+byte-fits : (c : AtBlock) (i : ℕ) → getD (input c) i 0 < 256
+byte-fits c i = c .before .before .before .before .before .before .before .shared-slice-known .given i .fits
+
 bytes : (c : AtBlock) → Bytes (input c)
-bytes c = bytes-of (input c) (λ i. c .before .before .before .before .before .before .before .shared-slice-known .given i .fits)
+bytes c = bytes-of (input c) (byte-fits c)
 
 more : (c : AtBlock) → (c .before .loop .blocks < begun c .args .most) × (c .before .loop .start < length (input c))
 more c =
@@ -322,6 +332,45 @@ module _ {o : Opened} (p : Place o) where
           g .inside,
         )
 
+-- ---- an update that is read at once
+
+-- An update of which all bytes were loaded, and that ends inside the block.
+pub record Loaded {o : Opened} (p : Place o) (n : ℕ) (h : UpdateHead) (f : RecordAt) : Type 0 where
+  there : n ≡ getD (body o) (p .at) 0
+  large : 128 ≤ n
+  head : h ≡ headAt (input (blockOf o)) (p .at + 1) n
+  low : h .mask < 32768
+  known : h .entity < entityCount
+  fields : recordValues (f .record) ≡ filledAt (input (blockOf o)) (baselineNumbers (getD (p .baselines) (h .entity) noBaseline)) (h .mask) (h .next)
+  next : f .next ≡ passed (updateSlots (baselineNumbers (getD (p .baselines) (h .entity) noBaseline))) (bit (h .mask)) (h .next)
+  flag : f .needless ≡ needlessIn (input (blockOf o)) (updateSlots (baselineNumbers (getD (p .baselines) (h .entity) noBaseline))) (bit (h .mask)) (h .next) false
+  ends : f .next ≤ end o
+
+module _ {o : Opened} (p : Place o) (n : ℕ) (h : UpdateHead) (f : RecordAt) (l : Loaded p n h f) where
+  at-once : QuickUpdate (input (blockOf o)) (end o) (p .at + 1) n (getD (p .baselines) (h .entity) noBaseline) h f
+  at-once =
+      let d = input (blockOf o) in
+      let small : n < 256 = omega (arith, l .there, getD-take (end o) d (p .at) 0 (omega (arith, p .inside, body-long o)), byte-fits (blockOf o) (p .at)) in
+      quick-update d (end o) (p .at + 1) n (getD (p .baselines) (h .entity) noBaseline) (within o) small h f (l .head) (l .fields) (l .next) (l .low) (l .known) (l .ends)
+      (l .flag) (l .large) (byte-fits (blockOf o))
+
+  abbrev updated : Scene
+  updated = held (p .baselines) (set (p .records) (h .entity) (f .record)) (set (p .present) (h .entity) true) (p .rest)
+
+  abbrev form : List ℕ
+  form = print (layoutIn (scene p)) (sendUpdate (baselineNumbers (getD (p .baselines) (h .entity) noBaseline)) (number (h .entity) ∷ recordValues (f .record)))
+
+  loaded-moved : Moved (body o) (scene p) (p .at) updated (f .next) form
+  loaded-moved =
+      quick-moved (body o) (p .at) (p .inside) (p .baselines) (p .records) (p .present) (p .rest) (p .going) n (l .there) (l .large)
+      (at-once .high) (h .entity) (at-once .sent) (f .next) (f .record) (at-once .parsed) (at-once .filled)
+
+  -- Where nothing was sent needlessly, it stays as it was read.
+  loaded-kept : f .needless ≡ false → h .needless ≡ false → form ≡ take (f .next - p .at) (drop (p .at) (body o))
+  loaded-kept none needed =
+      kept-form (body o) (p .at) (p .inside) (p .baselines) (p .records) (p .present) (p .rest) (p .going) n (l .there) (l .large)
+      (at-once .high) (h .entity) (at-once .sent) (f .next) (f .record) (at-once .parsed) (at-once .filled) (body-bytes o) (at-once .kept none needed)
+
 -- ---- the loop over updates
 
 abbrev AtRun : Type 0
@@ -380,66 +429,44 @@ Found = tie.After-record Inv-loop3 μ-loop3 Inv-loop2 μ-loop2 Inv-loop μ-loop
 abbrev updateOf : Found → AtUpdate
 updateOf c = c .before .before .before .before .before .before .before .before .before
 
-small : (c : Found) → kind (updateOf c) < 256
-small c = c .before .before .before .before .before .before .before .before .shared-slice-known2 .given (updateOf c .before .loop3 .at) .fits
+abbrev headOf : Found → UpdateHead
+headOf c = c .before .before .before .before .before .before .update-head .result
 
-abbrev entity : Found → ℕ
-entity c = c .before .before .before .before .before .before .update-head .result .entity
+abbrev fieldsOf : Found → RecordAt
+fieldsOf c = c .before .before .update-fields .result
 
-abbrev to : Found → ℕ
-to c = c .before .before .update-fields .result .next
-
-abbrev updated : Found → Scene
-updated c =
-    let p = update (updateOf c) in
-    held (p .baselines) (set (p .records) (entity c) (c .before .before .update-fields .result .record)) (set (p .present) (entity c) true) (p .rest)
-
-quick-here : (c : Found)
-    → let p = update (updateOf c) in
-    let o = ran (updateOf c) in
-    QuickUpdate (input (blockOf o)) (end o) (p .at + 1) (kind (updateOf c)) (getD (p .baselines) (entity c) noBaseline) (c .before .before .before .before .before .before .update-head .result) (c .before .before .update-fields .result)
-quick-here c =
-    let p = update (updateOf c) in
-    let o = ran (updateOf c) in
-    let h = c .before .before .before .before .before .before .update-head in
+found : (c : Found) → Loaded (update (updateOf c)) (kind (updateOf c)) (headOf c) (fieldsOf c)
+found c =
     let f = c .before .before .update-fields in
-    quick-update (input (blockOf o)) (end o) (p .at + 1) (kind (updateOf c)) (getD (p .baselines) (entity c) noBaseline) (within o) (small c) (h .result) (f .result) (h .ensures .0) (f .ensures .0) (f .ensures .1 .0) (c .before .before .before .before .if6 .left) (c .before .before .before .before .before .if5 .left) (c .before .if7 .left)
-    (f .ensures .1 .1) (c .before .before .before .before .before .before .before .if4 .left) (λ i. c .before .before .before .before .before .before .before .before .shared-slice-known2 .given i .fits)
+    record {
+      there = kind-there (updateOf c);
+      large = c .before .before .before .before .before .before .before .if4 .left;
+      head = c .before .before .before .before .before .before .update-head .ensures .0;
+      low = c .before .before .before .before .if6 .left;
+      known = c .before .before .before .before .before .if5 .left;
+      fields = f .ensures .0;
+      next = f .ensures .1 .0;
+      flag = f .ensures .1 .1;
+      ends = c .before .if7 .left;
+    }
 
-abbrev formAt : Found → List ℕ
-formAt c =
-    let p = update (updateOf c) in
-    print (layoutIn (scene p)) (sendUpdate (baselineNumbers (getD (p .baselines) (entity c) noBaseline)) (number (entity c) ∷ recordValues (c .before .before .update-fields .result .record)))
-
-at-once : (c : Found) → Moved (body (ran (updateOf c))) (scene (update (updateOf c))) (updateOf c .before .loop3 .at) (updated c) (to c) (formAt c)
-at-once c =
-    let p = update (updateOf c) in
-    let q = quick-here c in
-    quick-moved (body (ran (updateOf c))) (p .at) (p .inside) (p .baselines) (p .records) (p .present) (p .rest) (p .going) (kind (updateOf c)) (kind-there (updateOf c)) (c .before .before .before .before .before .before .before .if4 .left)
-    (q .high) (entity c) (q .sent) (to c) (c .before .before .update-fields .result .record) (q .parsed) (q .filled)
-
-moves : (c : Found) → updateOf c .before .loop3 .at < to c
+moves : (c : Found) → updateOf c .before .loop3 .at < fieldsOf c .next
 moves c =
-    let o = ran (updateOf c) in
-    omega (arith, moved-less (body o) (body-bytes o) (scene (update (updateOf c))) (updateOf c .before .loop3 .at) (updated c) (to c) (formAt c) (at-once c))
+    let p = update (updateOf c) in
+    omega (arith, less p _ (fieldsOf c .next) _ (loaded-moved p (kind (updateOf c)) (headOf c) (fieldsOf c) (found c)))
 
 -- It stays as it was read: where it is written, nothing was sent needlessly.
 step-once : (c : tie.Else8 Inv-loop3 μ-loop3 Inv-loop2 μ-loop2 Inv-loop μ-loop)
     → let r = c .before .before .before in
     let p = update (updateOf r) in
-    Step p (updated r) (to r) (p .filled) (p .size) (p .kept)
+    Step p (updated p (kind (updateOf r)) (headOf r) (fieldsOf r) (found r)) (fieldsOf r .next) (p .filled) (p .size) (p .kept)
 step-once c =
     let r = c .before .before .before in
     let p = update (updateOf r) in
-    let o = ran (updateOf r) in
-    let q = quick-here r in
-    let f = r .before .before .update-fields .result in
-    let h = c .before .before .needless-head in
-    kept-step p (updated r) (to r) (formAt r) (at-once r)
+    kept-step p _ (fieldsOf r .next) _ (loaded-moved p (kind (updateOf r)) (headOf r) (fieldsOf r) (found r))
     (λ on.
-    let n = or-false (f .needless) (h .result) (and-false _ _ on (c .if8 .left)) in
-    kept-form (body o) (p .at) (p .inside) (p .baselines) (p .records) (p .present) (p .rest) (p .going) (kind (updateOf r)) (kind-there (updateOf r)) (r .before .before .before .before .before .before .before .if4 .left)
-    (q .high) (entity r) (q .sent) (to r) (f .record) (q .parsed) (q .filled) (body-bytes o) (q .kept (n .0) (sym (h .ensures) ∙ n .1)))
+    let n = or-false (fieldsOf r .needless) (headOf r .needless) (and-false _ _ on (c .if8 .left)) in
+    loaded-kept p (kind (updateOf r)) (headOf r) (fieldsOf r) (found r) (n .0) (n .1))
 
 -- ---- where another message is to be read
 
@@ -475,37 +502,131 @@ client-again c e =
     let x = contextOf (scene (message (c .before .before .before))) in
     kind-here (message (c .before .before .before)) 15 x _ (c .client-at .result .cursor) (sym (c .before .match .keys2)) refl (λ z. omega arith) refl (c .client-at .ensures .1 x e)
 
-other-read : (c : tie.After-read-message Inv-loop3 μ-loop3 Inv-loop2 μ-loop2 Inv-loop μ-loop) → Parsed (message (c .before .before .before .before .before)) (valuesOf (body (inBlock (c .before .before .before .before .before))) (c .read-message .result .message)) (c .read-message .result .cursor)
+other-read : (c : tie.After-read-message Inv-loop3 μ-loop3 Inv-loop2 μ-loop2 Inv-loop μ-loop) → Parsed (message (c .before .before .before .before .before .before .before)) (valuesOf (body (inBlock (c .before .before .before .before .before .before .before))) (c .read-message .result .message)) (c .read-message .result .cursor)
 other-read c =
+    let p = message (c .before .before .before .before .before .before .before) in
+    let o = inBlock (c .before .before .before .before .before .before .before) in
+    other-parsed (body o) (p .at) (p .inside) (p .baselines) (p .records) (p .present) (p .rest) (p .going) (body-bytes o) _
+    (c .before .context3 .ensures _ _ _) (c .read-message .result .message) (c .read-message .result .cursor) (c .read-message .ensures)
+
+update-read : (c : tie.After-read-update Inv-loop3 μ-loop3 Inv-loop2 μ-loop2 Inv-loop μ-loop) → Parsed (message (c .before .before .before .before .before)) (updateValues (c .read-update .result .update)) (c .read-update .result .cursor)
+update-read c =
     let p = message (c .before .before .before .before .before) in
     let o = inBlock (c .before .before .before .before .before) in
-    other-parsed (body o) (p .at) (p .inside) (p .baselines) (p .records) (p .present) (p .rest) (p .going) (body-bytes o) _
-    (c .before .context2 .ensures _ _ _) (c .read-message .result .message) (c .read-message .result .cursor) (c .read-message .ensures)
-
-update-read : (c : tie.After-read-update Inv-loop3 μ-loop3 Inv-loop2 μ-loop2 Inv-loop μ-loop) → Parsed (message (c .before .before .before .before)) (updateValues (c .read-update .result .update)) (c .read-update .result .cursor)
-update-read c =
-    let p = message (c .before .before .before .before) in
-    let o = inBlock (c .before .before .before .before) in
-    update-parsed (body o) (p .at) (p .inside) (p .baselines) (p .records) (p .present) (p .rest) (p .going) (body-bytes o) _ refl (c .before .if12 .left)
+    update-parsed (body o) (p .at) (p .inside) (p .baselines) (p .records) (p .present) (p .rest) (p .going) (body-bytes o) _ refl (c .before .before .if12 .left)
     (c .read-update .result .update) (c .read-update .result .cursor) (c .read-update .ensures)
 
 -- The entity of a baseline, and of an update, is known.
 baseline-index : (c : tie.After-message Inv-loop3 μ-loop3 Inv-loop2 μ-loop2 Inv-loop μ-loop) → c .message .given .0 .0 .0 < 449
 baseline-index c =
     let r = c .before .before .before .before .before .before .before in
-    let o = inBlock (r .before .before .before .before .before) in
-    let p = message (r .before .before .before .before .before) in
+    let o = inBlock (r .before .before .before .before .before .before .before) in
+    let p = message (r .before .before .before .before .before .before .before) in
     baseline-known (body o) (p .at) (p .inside) (p .baselines) (p .records) (p .present) (p .rest) (p .going) (body-bytes o) _
-    (r .before .context2 .ensures _ _ _) (r .read-message .result .message) (r .read-message .result .cursor) (r .read-message .ensures) (c .before .before .before .before .before .if13 .left) _ _ _
+    (r .before .context3 .ensures _ _ _) (r .read-message .result .message) (r .read-message .result .cursor) (r .read-message .ensures) (c .before .before .before .before .before .if15 .left) _ _ _
     (c .message .given .1)
 
-update-index : (c : tie.Else14 Inv-loop3 μ-loop3 Inv-loop2 μ-loop2 Inv-loop μ-loop) → c .before .before .read-update .result .update .entity .0 < 449
+update-index : (c : tie.Else19 Inv-loop3 μ-loop3 Inv-loop2 μ-loop2 Inv-loop μ-loop) → c .before .before .read-update .result .update .entity .0 < 449
 update-index c =
     let r = c .before .before in
-    let o = inBlock (r .before .before .before .before) in
-    let p = message (r .before .before .before .before) in
-    update-known (body o) (p .at) (p .inside) (p .baselines) (p .records) (p .present) (p .rest) (p .going) (body-bytes o) _ refl (r .before .if12 .left)
-    (r .read-update .result .update) (r .read-update .result .cursor) (r .read-update .ensures) (c .if14 .left)
+    let o = inBlock (r .before .before .before .before .before) in
+    let p = message (r .before .before .before .before .before) in
+    update-known (body o) (p .at) (p .inside) (p .baselines) (p .records) (p .present) (p .rest) (p .going) (body-bytes o) _ refl (r .before .before .if12 .left)
+    (r .read-update .result .update) (r .read-update .result .cursor) (r .read-update .ensures) (c .if19 .left)
+
+-- A message that is passed.
+abbrev Passing : Type 0
+Passing = tie.After-pass-message Inv-loop3 μ-loop3 Inv-loop2 μ-loop2 Inv-loop μ-loop
+
+abbrev passedAt : (c : Passing) → Place (inBlock (c .before .before .before .before .before .before .before))
+passedAt c = message (c .before .before .before .before .before .before .before)
+
+abbrev passedKind : Passing → ℕ
+passedKind c = getD (body (inBlock (c .before .before .before .before .before .before .before))) (passedAt c .at) 0
+
+passes : (c : tie.Then13 Inv-loop3 μ-loop3 Inv-loop2 μ-loop2 Inv-loop μ-loop) → isPassed (getD (body (inBlock (c .before .before .before .before .before))) (message (c .before .before .before .before .before) .at) 0) ≡ true
+passes c = sym (c .before .is-passed .ensures) ∙ c .if13 .taken
+
+passed-here : (c : Passing) → Passed (body (inBlock (c .before .before .before .before .before .before .before))) (here (passedAt c .at + 1)) (numbersOf (c .before .context2 .result)) (passedKind c) (c .pass-message .result)
+passed-here c = passed-read (body (inBlock (c .before .before .before .before .before .before .before))) (here (passedAt c .at + 1)) _ (passedKind c) (c .pass-message .result) (c .pass-message .ensures)
+
+pass-parsed : (c : Passing) → Parsed (passedAt c) (number (passedKind c) ∷ passed-here c .values) (c .pass-message .result)
+pass-parsed c =
+    let p = passedAt c in
+    passed-parsed (body (inBlock (c .before .before .before .before .before .before .before))) (p .at) (p .inside) (p .baselines) (p .records) (p .present) (p .rest) (p .going) (passedKind c) (passes (c .before .before)) refl _
+    (c .before .context2 .ensures _ _ _) (passed-here c .values) (c .pass-message .result) (passed-here c .read)
+
+pass-step : (c : tie.Else14 Inv-loop3 μ-loop3 Inv-loop2 μ-loop2 Inv-loop μ-loop)
+    → let p = passedAt (c .before) in
+    Step p (scene p) (c .before .pass-message .result .at) (p .filled) (p .size) (p .kept)
+pass-step c =
+    let r = c .before in
+    let p = passedAt r in
+    let o = inBlock (r .before .before .before .before .before .before .before) in
+    kept-step p (scene p) (r .pass-message .result .at) _
+    (passed-moved (body o) (p .at) (p .inside) (p .baselines) (p .records) (p .present) (p .rest) (p .going) (body-bytes o) (passedKind r) (passes (r .before .before))
+    (passed-here r .values) (r .pass-message .result) (pass-parsed r) (c .if14 .left)) (λ on. refl)
+
+-- An update that is to be put anew was loaded again.
+abbrev Again : Type 0
+Again = tie.After-record2 Inv-loop3 μ-loop3 Inv-loop2 μ-loop2 Inv-loop μ-loop
+
+abbrev placeOf : (c : Again) → Place (inBlock (c .before .before .before .before .before .before .before .before .before .before))
+placeOf c = message (c .before .before .before .before .before .before .before .before .before .before)
+
+abbrev kindOf : Again → ℕ
+kindOf c = getD (body (inBlock (c .before .before .before .before .before .before .before .before .before .before))) (placeOf c .at) 0
+
+abbrev headAgain : Again → UpdateHead
+headAgain c = c .before .before .before .before .before .update-head2 .result
+
+abbrev fieldsAgain : Again → RecordAt
+fieldsAgain c = c .before .before .update-fields2 .result
+
+-- It is to be written, and all bytes that it could have are there.
+to-load : (c : tie.Then16 Inv-loop3 μ-loop3 Inv-loop2 μ-loop2 Inv-loop μ-loop)
+    → let m = c .before .before .before .before in
+    (begun (blockOf (inBlock m)) .args .on ≡ true) × (message m .at + 18 ≤ length (input (blockOf (inBlock m))))
+to-load c =
+    let m = c .before .before .before .before in
+    let o = inBlock m in
+    let t = and-true _ _ (c .if16 .taken) in
+    (t .0, before-stop (length (input (blockOf o))) (end o) _ (message m .at) (m .before .before .before .before .before .before .quick-until .ensures) (ltb-true _ _ (t .1)) .1)
+
+-- Its entity and its mask were tested.
+tested : (c : tie.Then17 Inv-loop3 μ-loop3 Inv-loop2 μ-loop2 Inv-loop μ-loop) → (c .before .update-head2 .result .entity < 449) × (c .before .update-head2 .result .mask < 32768)
+tested c =
+    let t = and-true _ _ (c .if17 .taken) in
+    (ltb-true _ _ (t .0), ltb-true _ _ (t .1))
+
+again : (c : Again) → Loaded (placeOf c) (kindOf c) (headAgain c) (fieldsAgain c)
+again c =
+    let f = c .before .before .update-fields2 in
+    record {
+      there = refl;
+      large = c .before .before .before .before .before .before .before .if12 .left;
+      head = c .before .before .before .before .before .update-head2 .ensures .0;
+      low = tested (c .before .before .before .before) .1;
+      known = tested (c .before .before .before .before) .0;
+      fields = f .ensures .0;
+      next = f .ensures .1 .0;
+      flag = f .ensures .1 .1;
+      ends = c .before .if18 .taken;
+    }
+
+abbrev Anew : Type 0
+Anew = tie.After-body6 Inv-loop3 μ-loop3 Inv-loop2 μ-loop2 Inv-loop μ-loop
+
+again-step : (c : Anew)
+    → let r = c .before .before .before in
+    let w = c .before .put-update-behind in
+    Step (placeOf r) (updated (placeOf r) (kindOf r) (headAgain r) (fieldsAgain r) (again r)) (fieldsAgain r .next) (w .last .1 .0) (w .result .size) (w .result .kept)
+again-step c =
+    let r = c .before .before .before in
+    let p = placeOf r in
+    let w = c .before .put-update-behind in
+    behind-step p _ (fieldsAgain r .next) _ (loaded-moved p (kindOf r) (headAgain r) (fieldsAgain r) (again r))
+    true (λ e. to-load (r .before .before .before .before .before .before) .0) (λ on e. clash (cc)) _ _ _ (w .ensures (contextOf (scene p)))
 
 -- ---- where the arms meet
 
@@ -551,24 +672,24 @@ came c =
     (client-moved s (k .at) l (k .baselines) (k .records) (k .present) (k .rest) g _ (w .1 .result .client) (w .9 .result) (w .1 .result .cursor) (client-parsed r) (w .3 .left) (client-here r .filled (w .3 .left)) (w .9 .ensures))
     _ (λ e. and-true _ _ e .0) (λ on e. kept-client s (k .at) l (k .baselines) (k .records) (k .present) (k .rest) g h (w .1 .result .client) (w .1 .result .cursor) (client-again r (and-false _ _ on e)) (w .3 .left)) _ _ _ (w .7 .ensures x)))
     (⊎-elim
-    (λ w. arrived c (set (k .baselines) (w .10 .given .0 .0 .0) (record { look = w .10 .given .0 .1 .0; pose = w .10 .given .0 .1 .1 .0 })) (k .records) (k .present) (k .rest) _ (w .3 .result .cursor .at) (w .7 .result .size) (w .7 .result .kept) (w .13) (w .14) (w .15) (w .16) (w .17) (w .18) (w .19) (w .20)
-    (behind-step k _ (w .3 .result .cursor .at) _ (baseline-moved s (k .at) l (k .baselines) (k .records) (k .present) (k .rest) g h _ (w .2 .ensures _ _ _) (w .3 .result .message) (w .3 .result .cursor)
-    (w .3 .ensures) (w .5 .left) (λ z. w .0 .rest .1 (sym z)) (w .1 .taken) _ _ _ (w .10 .given .1))
-    _ (λ e. and-true _ _ e .0) (λ on e. kept-other x s (k .at) (w .3 .result .cursor .at) (w .3 .result .message) (and-false _ _ on e)) _ _ _ (w .7 .ensures x)))
+    (λ w. arrived c (set (k .baselines) (w .12 .given .0 .0 .0) (record { look = w .12 .given .0 .1 .0; pose = w .12 .given .0 .1 .1 .0 })) (k .records) (k .present) (k .rest) _ (w .5 .result .cursor .at) (w .9 .result .size) (w .9 .result .kept) (w .15) (w .16) (w .17) (w .18) (w .19) (w .20) (w .21) (w .22)
+    (behind-step k _ (w .5 .result .cursor .at) _ (baseline-moved s (k .at) l (k .baselines) (k .records) (k .present) (k .rest) g h _ (w .4 .ensures _ _ _) (w .5 .result .message) (w .5 .result .cursor)
+    (w .5 .ensures) (w .7 .left) (λ z. w .0 .rest .1 (sym z)) (w .1 .taken) _ _ _ (w .12 .given .1))
+    _ (λ e. and-true _ _ e .0) (λ on e. kept-other x s (k .at) (w .5 .result .cursor .at) (w .5 .result .message) (and-false _ _ on e)) _ _ _ (w .9 .ensures x)))
     (⊎-elim
-    (λ w. arrived c (w .12 .result .baselines) (w .12 .result .records) (w .12 .result .present) (w .12 .result .rest) _ (w .3 .result .cursor .at) (w .7 .result .size) (w .7 .result .kept) (w .17) (w .18) (w .19) (w .20) (w .21) (w .22) (w .23) (w .24)
-    (behind-step k _ (w .3 .result .cursor .at) _ (serverinfo-moved s (k .at) l (k .baselines) (k .records) (k .present) (k .rest) g h _ (w .2 .ensures _ _ _) (w .3 .result .message) (w .3 .result .cursor)
-    (w .3 .ensures) (w .5 .left) (λ z. w .0 .rest .1 (sym z)) (w .1 .taken) _ _ (w .10 .given .1) (w .12 .ensures))
-    _ (λ e. and-true _ _ e .0) (λ on e. kept-other x s (k .at) (w .3 .result .cursor .at) (w .3 .result .message) (and-false _ _ on e)) _ _ _ (w .7 .ensures x)))
+    (λ w. arrived c (w .14 .result .baselines) (w .14 .result .records) (w .14 .result .present) (w .14 .result .rest) _ (w .5 .result .cursor .at) (w .9 .result .size) (w .9 .result .kept) (w .19) (w .20) (w .21) (w .22) (w .23) (w .24) (w .25) (w .26)
+    (behind-step k _ (w .5 .result .cursor .at) _ (serverinfo-moved s (k .at) l (k .baselines) (k .records) (k .present) (k .rest) g h _ (w .4 .ensures _ _ _) (w .5 .result .message) (w .5 .result .cursor)
+    (w .5 .ensures) (w .7 .left) (λ z. w .0 .rest .1 (sym z)) (w .1 .taken) _ _ (w .12 .given .1) (w .14 .ensures))
+    _ (λ e. and-true _ _ e .0) (λ on e. kept-other x s (k .at) (w .5 .result .cursor .at) (w .5 .result .message) (and-false _ _ on e)) _ _ _ (w .9 .ensures x)))
     (⊎-elim
-    (λ w. arrived c (k .baselines) (k .records) (k .present) (w .10 .result) _ (w .3 .result .cursor .at) (w .7 .result .size) (w .7 .result .kept) (w .11) (w .12) (w .13) (w .14) (w .15) (w .16) (w .17) (w .18)
-    (behind-step k _ (w .3 .result .cursor .at) _ (rest-moved s (k .at) l (k .baselines) (k .records) (k .present) (k .rest) g h _ (w .2 .ensures _ _ _) (w .3 .result .message) (w .3 .result .cursor)
-    (w .3 .ensures) (w .5 .left) (λ z. w .0 .rest .1 (sym z)) (w .1 .taken) neither (w .9 .keys3) tt tt (λ z. w .0 .rest .0 .1 (sym z)) (w .10 .result) (w .10 .ensures))
-    _ (λ e. and-true _ _ e .0) (λ on e. kept-other x s (k .at) (w .3 .result .cursor .at) (w .3 .result .message) (and-false _ _ on e)) _ _ _ (w .7 .ensures x)))
-    (λ w. arrived c (k .baselines) (set (k .records) (w .2 .result .update .entity .0) (w .9 .result)) (set (k .present) (w .2 .result .update .entity .0) true) (k .rest) _ (w .2 .result .cursor .at) (w .11 .result .size) (w .11 .result .kept) (w .13) (w .14) (w .15) (w .16) (w .17) (w .18) (w .19) (w .20)
-    (behind-step k _ (w .2 .result .cursor .at) _
-    (update-moved s (k .at) l (k .baselines) (k .records) (k .present) (k .rest) g h _ refl (w .1 .left) (w .2 .result .update) (w .2 .result .cursor) (w .2 .ensures) (w .4 .left) (w .9 .result) (w .9 .ensures))
-    _ (λ e. e) (λ on e. let z : true ≡ false = sym on ∙ e in clash (cc)) _ _ _ (w .11 .ensures x)))))))
+    (λ w. arrived c (k .baselines) (k .records) (k .present) (w .12 .result) _ (w .5 .result .cursor .at) (w .9 .result .size) (w .9 .result .kept) (w .13) (w .14) (w .15) (w .16) (w .17) (w .18) (w .19) (w .20)
+    (behind-step k _ (w .5 .result .cursor .at) _ (rest-moved s (k .at) l (k .baselines) (k .records) (k .present) (k .rest) g h _ (w .4 .ensures _ _ _) (w .5 .result .message) (w .5 .result .cursor)
+    (w .5 .ensures) (w .7 .left) (λ z. w .0 .rest .1 (sym z)) (w .1 .taken) neither (w .11 .keys3) tt tt (λ z. w .0 .rest .0 .1 (sym z)) (w .12 .result) (w .12 .ensures))
+    _ (λ e. and-true _ _ e .0) (λ on e. kept-other x s (k .at) (w .5 .result .cursor .at) (w .5 .result .message) (and-false _ _ on e)) _ _ _ (w .9 .ensures x)))
+    (λ w. arrived c (k .baselines) (set (k .records) (w .3 .result .update .entity .0) (w .10 .result)) (set (k .present) (w .3 .result .update .entity .0) true) (k .rest) _ (w .3 .result .cursor .at) (w .12 .result .size) (w .12 .result .kept) (w .14) (w .15) (w .16) (w .17) (w .18) (w .19) (w .20) (w .21)
+    (behind-step k _ (w .3 .result .cursor .at) _
+    (update-moved s (k .at) l (k .baselines) (k .records) (k .present) (k .rest) g h _ refl (w .1 .left) (w .3 .result .update) (w .3 .result .cursor) (w .3 .ensures) (w .5 .left) (w .10 .result) (w .10 .ensures))
+    _ (λ e. e) (λ on e. let z : true ≡ false = sym on ∙ e in clash (cc)) _ _ _ (w .12 .ensures x)))))))
     (c .match .came)
 
 -- ---- where a block is at its end
@@ -639,7 +760,7 @@ ended c =
     ∙ ap (λ (x : List ℕ). closed (sceneOf (a .given)) (input (blockOf o)) (a .on) (stores (blockOf o)) (a .room) (a .base) (l .blocks) (a .most - l .blocks - 1) (l .start) (end o) (angles o) (l .written) (l .out) (k .messages) (after c) (blockBytes (a .on) (angles o) x)) (sym (copying c .put-copy .ensures .0))
 
 -- The room is short for it.
-short : (c : tie.Then15 Inv-loop3 μ-loop3 Inv-loop2 μ-loop2 Inv-loop μ-loop) (r : WrittenAt) → Refuses (closing (c .before)) 12 (c .before .block-size .result) r → Answered (closing (c .before)) r
+short : (c : tie.Then20 Inv-loop3 μ-loop3 Inv-loop2 μ-loop2 Inv-loop μ-loop) (r : WrittenAt) → Refuses (closing (c .before)) 12 (c .before .block-size .result) r → Answered (closing (c .before)) r
 short c =
     let e = c .before in
     let o = closing e in
@@ -648,10 +769,10 @@ short c =
     refuse o 12 (e .block-size .result)
     (sym (ended e
     ∙ closed-short (sceneOf (a .given)) (input (blockOf o)) (a .on) (stores (blockOf o)) (a .room) (a .base) (l .blocks) _ (l .start) (end o) (angles o) (l .written) (l .out)
-    (left (copying e) .loop2 .messages) (after e) (formed e) (e .block-size .result) (formed-size e) (c .if15 .taken)))
+    (left (copying e) .loop2 .messages) (after e) (formed e) (e .block-size .result) (formed-size e) (c .if20 .taken)))
 
 -- There is room for it.
-goes-on : (c : tie.Else15 Inv-loop3 μ-loop3 Inv-loop2 μ-loop2 Inv-loop μ-loop)
+goes-on : (c : tie.Else20 Inv-loop3 μ-loop3 Inv-loop2 μ-loop2 Inv-loop μ-loop)
     → let e = c .before in
     let o = closing e in
     let a = begun (blockOf o) .args in
@@ -667,9 +788,9 @@ goes-on c =
     let l = blockOf o .before .loop in
     ended e
     ∙ closed-fits (sceneOf (a .given)) (input (blockOf o)) (a .on) (stores (blockOf o)) (a .room) (a .base) (l .blocks) _ (l .start) (end o) (angles o) (l .written) (l .out)
-    (left (copying e) .loop2 .messages) (after e) (formed e) (e .block-size .result) (formed-size e) (c .if15 .left)
+    (left (copying e) .loop2 .messages) (after e) (formed e) (e .block-size .result) (formed-size e) (c .if20 .left)
 
-room-there : (c : tie.Else15 Inv-loop3 μ-loop3 Inv-loop2 μ-loop2 Inv-loop μ-loop)
+room-there : (c : tie.Else20 Inv-loop3 μ-loop3 Inv-loop2 μ-loop2 Inv-loop μ-loop)
     → let a = begun (blockOf (closing (c .before))) .args in
     let l = blockOf (closing (c .before)) .before .loop in
     (a .on && stored (a .out .now) (a .base) (a .room)) ≡ true → a .base + l .written + 16 + sizeOf (copying (c .before)) ≤ length (l .out)
@@ -679,7 +800,7 @@ room-there c e =
     let l = blockOf (closing (c .before)) .before .loop in
     let b = and-true (a .on) (stored (a .out .now) (a .base) (a .room)) e in
     let n : c .before .block-size .result ≡ 16 + sizeOf (copying (c .before)) = c .before .block-size .ensures ∙ ap (λ (x : Bool). cond x (16 + sizeOf (copying (c .before))) 0) (b .0) in
-    omega (arith, n, c .if15 .left, leb-true (a .room) (length (a .out .now) - a .base) (b .1), l .inv .5, l .inv .6, s .pre .2)
+    omega (arith, n, c .if20 .left, leb-true (a .room) (length (a .out .now) - a .base) (b .1), l .inv .5, l .inv .6, s .pre .2)
 
 -- What the room holds then.
 abbrev AtStored : Type 0
@@ -798,9 +919,6 @@ array-copy-out-b c = c .before .if5 .left
 update-fields-requires : tie.Need-update-fields-requires Inv-loop3 μ-loop3 Inv-loop2 μ-loop2 Inv-loop μ-loop
 update-fields-requires c κs = omega (arith, c .before .before .before .update-head .ensures .1, loaded (c .before .before .before .before .before .before))
 
-needless-head-requires : tie.Need-needless-head-requires Inv-loop3 μ-loop3 Inv-loop2 μ-loop2 Inv-loop μ-loop
-needless-head-requires c κs = search needs
-
 mul-records : tie.Need-mul-records Inv-loop3 μ-loop3 Inv-loop2 μ-loop2 Inv-loop μ-loop
 mul-records c = omega (arith, c .before .before .before .before .before .before .before .before .if5 .left)
 
@@ -817,13 +935,13 @@ loop3-less : tie.Need-loop3-less Inv-loop3 μ-loop3 Inv-loop2 μ-loop2 Inv-loop 
 loop3-less c =
     let r = c .before .before .before in
     let o = ran (updateOf r) in
-    moved-less (body o) (body-bytes o) (scene (update (updateOf r))) (updateOf r .before .loop3 .at) (updated r) (to r) (formAt r) (at-once r)
+    moved-less (body o) (body-bytes o) (scene (update (updateOf r))) (updateOf r .before .loop3 .at) _ (fieldsOf r .next) _ (loaded-moved (update (updateOf r)) (kind (updateOf r)) (headOf r) (fieldsOf r) (found r))
 
 loop3-again : tie.Need-loop3-again Inv-loop3 μ-loop3 Inv-loop2 μ-loop2 Inv-loop μ-loop
 loop3-again c =
     let r = c .before .before .before in
     let i = updateOf r .before .loop3 .inv in
-    let q = step-on (update (updateOf r)) (updated r) (to r) _ _ _ (step-once c) in
+    let q = step-on (update (updateOf r)) _ (fieldsOf r .next) _ _ _ (step-once c) in
     ((q .0, q .1, q .2, q .3, i .0 .4 ∙ q .4, q .5), omega (arith, i .1, moves r))
 
 loop2-less : tie.Need-loop2-less Inv-loop3 μ-loop3 Inv-loop2 μ-loop2 Inv-loop μ-loop
@@ -835,8 +953,8 @@ loop2-again c = reached (c .before .before)
 shared-slice-read-k-2 : tie.Need-shared-slice-read-k-2 Inv-loop3 μ-loop3 Inv-loop2 μ-loop2 Inv-loop μ-loop
 shared-slice-read-k-2 c = search needs
 
-add-t80 : tie.Need-add-t80 Inv-loop3 μ-loop3 Inv-loop2 μ-loop2 Inv-loop μ-loop
-add-t80 c = place-fits (message (c .before))
+add-t90 : tie.Need-add-t90 Inv-loop3 μ-loop3 Inv-loop2 μ-loop2 Inv-loop μ-loop
+add-t90 c = place-fits (message (c .before))
 
 context-requires : tie.Need-context-requires Inv-loop3 μ-loop3 Inv-loop2 μ-loop2 Inv-loop μ-loop
 context-requires c κs = search needs
@@ -882,24 +1000,56 @@ with-client-requires c κs = search needs
 context-requires-2 : tie.Need-context-requires-2 Inv-loop3 μ-loop3 Inv-loop2 μ-loop2 Inv-loop μ-loop
 context-requires-2 c κs = search needs
 
-read-message-requires : tie.Need-read-message-requires Inv-loop3 μ-loop3 Inv-loop2 μ-loop2 Inv-loop μ-loop
-read-message-requires c κs = search needs
+is-passed-requires : tie.Need-is-passed-requires Inv-loop3 μ-loop3 Inv-loop2 μ-loop2 Inv-loop μ-loop
+is-passed-requires c κs = search needs
+
+pass-message-requires : tie.Need-pass-message-requires Inv-loop3 μ-loop3 Inv-loop2 μ-loop2 Inv-loop μ-loop
+pass-message-requires c κs = passes (c .before)
 
 refused-in-requires-4 : tie.Need-refused-in-requires-4 Inv-loop3 μ-loop3 Inv-loop2 μ-loop2 Inv-loop μ-loop
 refused-in-requires-4 c κs = search needs
 
 same-length-4 : tie.Need-same-length-4 Inv-loop3 μ-loop3 Inv-loop2 μ-loop2 Inv-loop μ-loop
-same-length-4 c = blockOf (inBlock (c .before .before .before .before .before .before .before .before)) .before .loop .inv .6
+same-length-4 c = blockOf (inBlock (c .before .before .before .before .before .before .before .before .before)) .before .loop .inv .6
 
 returns-4 : tie.Need-returns-4 Inv-loop3 μ-loop3 Inv-loop2 μ-loop2 Inv-loop μ-loop
 returns-4 c =
-    refuse-parsed (message (c .before .before .before .before .before .before .before .before)) _ (c .before .before .before .read-message .result .cursor) (other-read (c .before .before .before)) (c .before .if13 .taken) (c .refused-in4 .result) (c .refused-in4 .ensures)
+    let r = c .before .before in
+    refuse-parsed (passedAt r) _ (r .pass-message .result) (pass-parsed r) (c .before .if14 .taken) (c .refused-in4 .result) (c .refused-in4 .ensures)
+
+add-messages-2 : tie.Need-add-messages-2 Inv-loop3 μ-loop3 Inv-loop2 μ-loop2 Inv-loop μ-loop
+add-messages-2 c = counts (passedAt (c .before))
+
+loop2-less-2 : tie.Need-loop2-less-2 Inv-loop3 μ-loop3 Inv-loop2 μ-loop2 Inv-loop μ-loop
+loop2-less-2 c = omega (arith, step-less (passedAt (c .before)) _ (c .before .pass-message .result .at) _ _ _ (pass-step c), c .before .before .before .before .before .before .before .before .before .before .loop3 .inv .1)
+
+loop2-again-2 : tie.Need-loop2-again-2 Inv-loop3 μ-loop3 Inv-loop2 μ-loop2 Inv-loop μ-loop
+loop2-again-2 c =
+    let p = passedAt (c .before) in
+    let q = step-on p _ (c .before .pass-message .result .at) _ _ _ (pass-step c) in
+    (q .0, q .1, q .2, q .3, p .reached .4 ∙ q .4, q .5)
+
+context-requires-3 : tie.Need-context-requires-3 Inv-loop3 μ-loop3 Inv-loop2 μ-loop2 Inv-loop μ-loop
+context-requires-3 c κs = search needs
+
+read-message-requires : tie.Need-read-message-requires Inv-loop3 μ-loop3 Inv-loop2 μ-loop2 Inv-loop μ-loop
+read-message-requires c κs = search needs
+
+refused-in-requires-5 : tie.Need-refused-in-requires-5 Inv-loop3 μ-loop3 Inv-loop2 μ-loop2 Inv-loop μ-loop
+refused-in-requires-5 c κs = search needs
+
+same-length-5 : tie.Need-same-length-5 Inv-loop3 μ-loop3 Inv-loop2 μ-loop2 Inv-loop μ-loop
+same-length-5 c = blockOf (inBlock (c .before .before .before .before .before .before .before .before .before .before)) .before .loop .inv .6
+
+returns-5 : tie.Need-returns-5 Inv-loop3 μ-loop3 Inv-loop2 μ-loop2 Inv-loop μ-loop
+returns-5 c =
+    refuse-parsed (message (c .before .before .before .before .before .before .before .before .before .before)) _ (c .before .before .before .read-message .result .cursor) (other-read (c .before .before .before)) (c .before .if15 .taken) (c .refused-in5 .result) (c .refused-in5 .ensures)
 
 slice-aggregate-put-sound-behind : tie.Need-slice-aggregate-put-sound-behind Inv-loop3 μ-loop3 Inv-loop2 μ-loop2 Inv-loop μ-loop
-slice-aggregate-put-sound-behind c = sym (message (c .before .before .before .before .before .before .before .before) .reached .2)
+slice-aggregate-put-sound-behind c = sym (message (c .before .before .before .before .before .before .before .before .before .before) .reached .2)
 
 put-sound-behind-requires : tie.Need-put-sound-behind-requires Inv-loop3 μ-loop3 Inv-loop2 μ-loop2 Inv-loop μ-loop
-put-sound-behind-requires c κs = room-for (message (c .before .before .before .before .before .before .before .before)) 16 (omega arith)
+put-sound-behind-requires c κs = room-for (message (c .before .before .before .before .before .before .before .before .before .before)) 16 (omega arith)
 
 enum-known-message : tie.Need-enum-known-message Inv-loop3 μ-loop3 Inv-loop2 μ-loop2 Inv-loop μ-loop
 enum-known-message c = search needs
@@ -921,56 +1071,98 @@ cleared-scene-requires c κs = search needs
 
 apply-rest-requires : tie.Need-apply-rest-requires Inv-loop3 μ-loop3 Inv-loop2 μ-loop2 Inv-loop μ-loop
 unfolding sceneWith
-apply-rest-requires c κs = omega (arith, range→ (scene (message (c .before .before .before .before .before .before .before .before .before .before .before))) (message (c .before .before .before .before .before .before .before .before .before .before .before) .reached .3) .statics)
+apply-rest-requires c κs = omega (arith, range→ (scene (message (c .before .before .before .before .before .before .before .before .before .before .before .before .before))) (message (c .before .before .before .before .before .before .before .before .before .before .before .before .before) .reached .3) .statics)
+
+add-update-head-2 : tie.Need-add-update-head-2 Inv-loop3 μ-loop3 Inv-loop2 μ-loop2 Inv-loop μ-loop
+add-update-head-2 c = place-fits (message (c .before .before .before .before))
+
+update-head-requires-2 : tie.Need-update-head-requires-2 Inv-loop3 μ-loop3 Inv-loop2 μ-loop2 Inv-loop μ-loop
+update-head-requires-2 c κs = omega (arith, to-load c)
+
+mul-b-2 : tie.Need-mul-b-2 Inv-loop3 μ-loop3 Inv-loop2 μ-loop2 Inv-loop μ-loop
+mul-b-2 c = omega (arith, tested c)
+
+array-copy-out-b-2 : tie.Need-array-copy-out-b-2 Inv-loop3 μ-loop3 Inv-loop2 μ-loop2 Inv-loop μ-loop
+array-copy-out-b-2 c = tested c .0
+
+update-fields-requires-2 : tie.Need-update-fields-requires-2 Inv-loop3 μ-loop3 Inv-loop2 μ-loop2 Inv-loop μ-loop
+update-fields-requires-2 c κs = omega (arith, c .before .before .update-head2 .ensures .1, to-load (c .before .before .before))
+
+slice-aggregate-put-update-behind : tie.Need-slice-aggregate-put-update-behind Inv-loop3 μ-loop3 Inv-loop2 μ-loop2 Inv-loop μ-loop
+slice-aggregate-put-update-behind c = sym (placeOf (c .before) .reached .2)
+
+put-update-behind-requires : tie.Need-put-update-behind-requires Inv-loop3 μ-loop3 Inv-loop2 μ-loop2 Inv-loop μ-loop
+put-update-behind-requires c κs = room-for (placeOf (c .before)) _ (omega arith)
+
+mul-records-2 : tie.Need-mul-records-2 Inv-loop3 μ-loop3 Inv-loop2 μ-loop2 Inv-loop μ-loop
+mul-records-2 c = omega (arith, tested (c .before .before .before .before .before .before .before))
+
+array-set-from-records-2 : tie.Need-array-set-from-records-2 Inv-loop3 μ-loop3 Inv-loop2 μ-loop2 Inv-loop μ-loop
+array-set-from-records-2 c = tested (c .before .before .before .before .before .before .before) .0
+
+array-write-present-2 : tie.Need-array-write-present-2 Inv-loop3 μ-loop3 Inv-loop2 μ-loop2 Inv-loop μ-loop
+array-write-present-2 c = tested (c .before .before .before .before .before .before .before) .0
+
+add-messages-3 : tie.Need-add-messages-3 Inv-loop3 μ-loop3 Inv-loop2 μ-loop2 Inv-loop μ-loop
+add-messages-3 c = counts (placeOf (c .before .before .before))
+
+loop2-less-3 : tie.Need-loop2-less-3 Inv-loop3 μ-loop3 Inv-loop2 μ-loop2 Inv-loop μ-loop
+loop2-less-3 c = omega (arith, step-less (placeOf (c .before .before .before)) _ (fieldsAgain (c .before .before .before) .next) _ _ _ (again-step c), c .before .before .before .before .before .before .before .before .before .before .before .before .before .before .before .loop3 .inv .1)
+
+loop2-again-3 : tie.Need-loop2-again-3 Inv-loop3 μ-loop3 Inv-loop2 μ-loop2 Inv-loop μ-loop
+loop2-again-3 c =
+    let p = placeOf (c .before .before .before) in
+    let q = step-on p _ (fieldsAgain (c .before .before .before) .next) _ _ _ (again-step c) in
+    (q .0, q .1, q .2, q .3, p .reached .4 ∙ q .4, q .5)
 
 read-update-requires : tie.Need-read-update-requires Inv-loop3 μ-loop3 Inv-loop2 μ-loop2 Inv-loop μ-loop
 read-update-requires c κs = search needs
 
-refused-in-requires-5 : tie.Need-refused-in-requires-5 Inv-loop3 μ-loop3 Inv-loop2 μ-loop2 Inv-loop μ-loop
-refused-in-requires-5 c κs = search needs
+refused-in-requires-6 : tie.Need-refused-in-requires-6 Inv-loop3 μ-loop3 Inv-loop2 μ-loop2 Inv-loop μ-loop
+refused-in-requires-6 c κs = search needs
 
-same-length-5 : tie.Need-same-length-5 Inv-loop3 μ-loop3 Inv-loop2 μ-loop2 Inv-loop μ-loop
-same-length-5 c = blockOf (inBlock (c .before .before .before .before .before .before .before)) .before .loop .inv .6
+same-length-6 : tie.Need-same-length-6 Inv-loop3 μ-loop3 Inv-loop2 μ-loop2 Inv-loop μ-loop
+same-length-6 c = blockOf (inBlock (c .before .before .before .before .before .before .before .before)) .before .loop .inv .6
 
-returns-5 : tie.Need-returns-5 Inv-loop3 μ-loop3 Inv-loop2 μ-loop2 Inv-loop μ-loop
-returns-5 c =
-    refuse-parsed (message (c .before .before .before .before .before .before .before)) _ (c .before .before .before .read-update .result .cursor) (update-read (c .before .before .before)) (c .before .if14 .taken) (c .refused-in5 .result) (c .refused-in5 .ensures)
+returns-6 : tie.Need-returns-6 Inv-loop3 μ-loop3 Inv-loop2 μ-loop2 Inv-loop μ-loop
+returns-6 c =
+    refuse-parsed (message (c .before .before .before .before .before .before .before .before)) _ (c .before .before .before .read-update .result .cursor) (update-read (c .before .before .before)) (c .before .if19 .taken) (c .refused-in6 .result) (c .refused-in6 .ensures)
 
 cast-i-2 : tie.Need-cast-i-2 Inv-loop3 μ-loop3 Inv-loop2 μ-loop2 Inv-loop μ-loop
 cast-i-2 c = search needs
 
-mul-b-2 : tie.Need-mul-b-2 Inv-loop3 μ-loop3 Inv-loop2 μ-loop2 Inv-loop μ-loop
-mul-b-2 c = omega (arith, update-index (c .before .before .before))
+mul-b-3 : tie.Need-mul-b-3 Inv-loop3 μ-loop3 Inv-loop2 μ-loop2 Inv-loop μ-loop
+mul-b-3 c = omega (arith, update-index (c .before .before .before))
 
-array-copy-out-b-2 : tie.Need-array-copy-out-b-2 Inv-loop3 μ-loop3 Inv-loop2 μ-loop2 Inv-loop μ-loop
-array-copy-out-b-2 c = update-index (c .before .before .before)
+array-copy-out-b-3 : tie.Need-array-copy-out-b-3 Inv-loop3 μ-loop3 Inv-loop2 μ-loop2 Inv-loop μ-loop
+array-copy-out-b-3 c = update-index (c .before .before .before)
 
 fill-update-requires : tie.Need-fill-update-requires Inv-loop3 μ-loop3 Inv-loop2 μ-loop2 Inv-loop μ-loop
 fill-update-requires c κs = search needs
 
-slice-aggregate-put-update-behind : tie.Need-slice-aggregate-put-update-behind Inv-loop3 μ-loop3 Inv-loop2 μ-loop2 Inv-loop μ-loop
-slice-aggregate-put-update-behind c = sym (message (c .before .before .before .before .before .before .before .before .before .before .before .before) .reached .2)
+slice-aggregate-put-update-behind-2 : tie.Need-slice-aggregate-put-update-behind-2 Inv-loop3 μ-loop3 Inv-loop2 μ-loop2 Inv-loop μ-loop
+slice-aggregate-put-update-behind-2 c = sym (message (c .before .before .before .before .before .before .before .before .before .before .before .before .before) .reached .2)
 
-put-update-behind-requires : tie.Need-put-update-behind-requires Inv-loop3 μ-loop3 Inv-loop2 μ-loop2 Inv-loop μ-loop
-put-update-behind-requires c κs = room-for (message (c .before .before .before .before .before .before .before .before .before .before .before .before)) _ (omega arith)
+put-update-behind-requires-2 : tie.Need-put-update-behind-requires-2 Inv-loop3 μ-loop3 Inv-loop2 μ-loop2 Inv-loop μ-loop
+put-update-behind-requires-2 c κs = room-for (message (c .before .before .before .before .before .before .before .before .before .before .before .before .before)) _ (omega arith)
 
-mul-records-2 : tie.Need-mul-records-2 Inv-loop3 μ-loop3 Inv-loop2 μ-loop2 Inv-loop μ-loop
-mul-records-2 c = omega (arith, update-index (c .before .before .before .before .before .before .before .before))
+mul-records-3 : tie.Need-mul-records-3 Inv-loop3 μ-loop3 Inv-loop2 μ-loop2 Inv-loop μ-loop
+mul-records-3 c = omega (arith, update-index (c .before .before .before .before .before .before .before .before))
 
-array-set-from-records-2 : tie.Need-array-set-from-records-2 Inv-loop3 μ-loop3 Inv-loop2 μ-loop2 Inv-loop μ-loop
-array-set-from-records-2 c = update-index (c .before .before .before .before .before .before .before .before)
+array-set-from-records-3 : tie.Need-array-set-from-records-3 Inv-loop3 μ-loop3 Inv-loop2 μ-loop2 Inv-loop μ-loop
+array-set-from-records-3 c = update-index (c .before .before .before .before .before .before .before .before)
 
-array-write-present-2 : tie.Need-array-write-present-2 Inv-loop3 μ-loop3 Inv-loop2 μ-loop2 Inv-loop μ-loop
-array-write-present-2 c = update-index (c .before .before .before .before .before .before .before .before)
+array-write-present-3 : tie.Need-array-write-present-3 Inv-loop3 μ-loop3 Inv-loop2 μ-loop2 Inv-loop μ-loop
+array-write-present-3 c = update-index (c .before .before .before .before .before .before .before .before)
 
-add-messages-2 : tie.Need-add-messages-2 Inv-loop3 μ-loop3 Inv-loop2 μ-loop2 Inv-loop μ-loop
-add-messages-2 c = counts (message (c .before .before))
+add-messages-4 : tie.Need-add-messages-4 Inv-loop3 μ-loop3 Inv-loop2 μ-loop2 Inv-loop μ-loop
+add-messages-4 c = counts (message (c .before .before))
 
-loop2-less-2 : tie.Need-loop2-less-2 Inv-loop3 μ-loop3 Inv-loop2 μ-loop2 Inv-loop μ-loop
-loop2-less-2 c = omega (arith, step-less (message (c .before .before)) (next c) (c .match .at) (c .match .body) (c .match .size) (c .match .kept) (came c), c .before .before .before .before .loop3 .inv .1)
+loop2-less-4 : tie.Need-loop2-less-4 Inv-loop3 μ-loop3 Inv-loop2 μ-loop2 Inv-loop μ-loop
+loop2-less-4 c = omega (arith, step-less (message (c .before .before)) (next c) (c .match .at) (c .match .body) (c .match .size) (c .match .kept) (came c), c .before .before .before .before .loop3 .inv .1)
 
-loop2-again-2 : tie.Need-loop2-again-2 Inv-loop3 μ-loop3 Inv-loop2 μ-loop2 Inv-loop μ-loop
-loop2-again-2 c =
+loop2-again-4 : tie.Need-loop2-again-4 Inv-loop3 μ-loop3 Inv-loop2 μ-loop2 Inv-loop μ-loop
+loop2-again-4 c =
     let p = message (c .before .before) in
     let q = step-on p (next c) (c .match .at) (c .match .body) (c .match .size) (c .match .kept) (came c) in
     (q .0, q .1, q .2, q .3, p .reached .4 ∙ q .4, q .5)
@@ -987,17 +1179,17 @@ put-copy-requires c κs =
 block-size-requires : tie.Need-block-size-requires Inv-loop3 μ-loop3 Inv-loop2 μ-loop2 Inv-loop μ-loop
 block-size-requires c κs = fits (c .before) .0
 
-sub-if15 : tie.Need-sub-if15 Inv-loop3 μ-loop3 Inv-loop2 μ-loop2 Inv-loop μ-loop
-sub-if15 c = c .before .before .before .before .before .before .before .before .before .before .before .before .before .loop .inv .5
+sub-if20 : tie.Need-sub-if20 Inv-loop3 μ-loop3 Inv-loop2 μ-loop2 Inv-loop μ-loop
+sub-if20 c = c .before .before .before .before .before .before .before .before .before .before .before .before .before .loop .inv .5
 
-refused-in-requires-6 : tie.Need-refused-in-requires-6 Inv-loop3 μ-loop3 Inv-loop2 μ-loop2 Inv-loop μ-loop
-refused-in-requires-6 c κs = search needs
+refused-in-requires-7 : tie.Need-refused-in-requires-7 Inv-loop3 μ-loop3 Inv-loop2 μ-loop2 Inv-loop μ-loop
+refused-in-requires-7 c κs = search needs
 
-same-length-6 : tie.Need-same-length-6 Inv-loop3 μ-loop3 Inv-loop2 μ-loop2 Inv-loop μ-loop
-same-length-6 c = c .before .before .before .before .before .before .before .before .before .before .before .before .before .before .before .loop .inv .6
+same-length-7 : tie.Need-same-length-7 Inv-loop3 μ-loop3 Inv-loop2 μ-loop2 Inv-loop μ-loop
+same-length-7 c = c .before .before .before .before .before .before .before .before .before .before .before .before .before .before .before .loop .inv .6
 
-returns-6 : tie.Need-returns-6 Inv-loop3 μ-loop3 Inv-loop2 μ-loop2 Inv-loop μ-loop
-returns-6 c = short (c .before) (c .refused-in6 .result) (c .refused-in6 .ensures)
+returns-7 : tie.Need-returns-7 Inv-loop3 μ-loop3 Inv-loop2 μ-loop2 Inv-loop μ-loop
+returns-7 c = short (c .before) (c .refused-in7 .result) (c .refused-in7 .ensures)
 
 slice-aggregate-store-block : tie.Need-slice-aggregate-store-block Inv-loop3 μ-loop3 Inv-loop2 μ-loop2 Inv-loop μ-loop
 slice-aggregate-store-block c = sym (fits (c .before .before .before .before .before) .1)
@@ -1008,7 +1200,7 @@ store-block-requires c κs =
     (room-there (c .before .before), omega (arith, f), f .0)
 
 add-written : tie.Need-add-written Inv-loop3 μ-loop3 Inv-loop2 μ-loop2 Inv-loop μ-loop
-add-written c = omega (arith, c .before .before .before .before .before .if15 .left, c .before .before .before .before .before .before .before .before .before .before .before .before .before .before .before .before .before .before .before .loop .inv .5, c .before .before .before .before .before .before .before .before .before .before .before .before .before .before .before .before .before .before .before .before .before .before .before .before .before .before .fits .room)
+add-written c = omega (arith, c .before .before .before .before .before .if20 .left, c .before .before .before .before .before .before .before .before .before .before .before .before .before .before .before .before .before .before .before .loop .inv .5, c .before .before .before .before .before .before .before .before .before .before .before .before .before .before .before .before .before .before .before .before .before .before .before .before .before .before .fits .room)
 
 add-blocks : tie.Need-add-blocks Inv-loop3 μ-loop3 Inv-loop2 μ-loop2 Inv-loop μ-loop
 add-blocks c = omega (arith, more (c .before .before .before .before .before .before .before .before .before .before .before .before .before .before .before .before .before .before), c .before .before .before .before .before .before .before .before .before .before .before .before .before .before .before .before .before .before .before .before .before .before .before .before .before .before .fits .most)
@@ -1030,17 +1222,17 @@ loop-again c =
       omega (arith, k .inv .0),
       omega (arith, more (blockOf o)),
       k .inv .3,
-      omega (arith, e .if15 .left, l .inv .5),
+      omega (arith, e .if20 .left, l .inv .5),
       kept-length w _ (w .store-block .ensures) ∙ l .inv .6,
       fits (copying (e .before)) .1,
       goes-on e ∙ ap₂ (λ (x : List ℕ) (j : ℕ). wroteOf (sceneOf (a .given)) (length (input (blockOf o))) (stores (blockOf o)) (a .base) (l .blocks + 1) (k .messages) (l .written + e .before .block-size .result) x (runOf (a .on) j (a .room - (l .written + e .before .block-size .result)) (after (e .before)) (drop (end o) (input (blockOf o))))) (stored-there w _ (w .store-block .ensures)) n,
     )
 
-same-length-7 : tie.Need-same-length-7 Inv-loop3 μ-loop3 Inv-loop2 μ-loop2 Inv-loop μ-loop
-same-length-7 c = c .before .loop .inv .6
+same-length-8 : tie.Need-same-length-8 Inv-loop3 μ-loop3 Inv-loop2 μ-loop2 Inv-loop μ-loop
+same-length-8 c = c .before .loop .inv .6
 
-returns-7 : tie.Need-returns-7 Inv-loop3 μ-loop3 Inv-loop2 μ-loop2 Inv-loop μ-loop
-returns-7 c =
+returns-8 : tie.Need-returns-8 Inv-loop3 μ-loop3 Inv-loop2 μ-loop2 Inv-loop μ-loop
+returns-8 c =
     let a = c .before .before .before .before .before .before .before .before .args in
     let k = c .before .loop in
     let d = a .d .now in
@@ -1050,19 +1242,19 @@ returns-7 c =
     ∙ sym (k .inv .8
     ∙ run-over (sceneOf (a .given)) d (a .on) s (a .room) (a .base) (k .blocks) (k .messages) (k .written) (k .out) t (k .start) (a .most) (k .blocks) (k .inv .1) (c .loop-test .left))
 
-same-length-8 : tie.Need-same-length-8 Inv-loop3 μ-loop3 Inv-loop2 μ-loop2 Inv-loop μ-loop
-same-length-8 c = c .before .before .loop .inv .6
-
-returns-8 : tie.Need-returns-8 Inv-loop3 μ-loop3 Inv-loop2 μ-loop2 Inv-loop μ-loop
-unfolding sceneWith
-returns-8 c = stop-block (c .before) 11 (block-ended (before (c .before)) (drop (c .before .before .loop .start) (input (c .before))) (c .if1 .taken))
-
 same-length-9 : tie.Need-same-length-9 Inv-loop3 μ-loop3 Inv-loop2 μ-loop2 Inv-loop μ-loop
-same-length-9 c = c .before .before .before .before .loop .inv .6
+same-length-9 c = c .before .before .loop .inv .6
 
 returns-9 : tie.Need-returns-9 Inv-loop3 μ-loop3 Inv-loop2 μ-loop2 Inv-loop μ-loop
 unfolding sceneWith
-returns-9 c =
+returns-9 c = stop-block (c .before) 11 (block-ended (before (c .before)) (drop (c .before .before .loop .start) (input (c .before))) (c .if1 .taken))
+
+same-length-10 : tie.Need-same-length-10 Inv-loop3 μ-loop3 Inv-loop2 μ-loop2 Inv-loop μ-loop
+same-length-10 c = c .before .before .before .before .loop .inv .6
+
+returns-10 : tie.Need-returns-10 Inv-loop3 μ-loop3 Inv-loop2 μ-loop2 Inv-loop μ-loop
+unfolding sceneWith
+returns-10 c =
     let b = c .before .before .before in
     stop-block b (c .before .read-head .result .refusal)
     (head-refused (input b) (b .before .loop .start) (c .before .read-head .result) (c .before .read-head .ensures .0) (before b) (c .before .before .if1 .left) (c .if2 .taken))
@@ -1095,7 +1287,6 @@ write-blocks-spec =
     mul-b
     array-copy-out-b
     update-fields-requires
-    needless-head-requires
     mul-records
     array-set-from-records
     array-write-present
@@ -1105,7 +1296,7 @@ write-blocks-spec =
     loop2-less
     loop2-again
     shared-slice-read-k-2
-    add-t80
+    add-t90
     context-requires
     time-at-requires
     refused-in-requires-2
@@ -1119,11 +1310,20 @@ write-blocks-spec =
     slice-aggregate-put-client-behind
     put-client-behind-requires
     with-client-requires
+    is-passed-requires
     context-requires-2
-    read-message-requires
+    pass-message-requires
     refused-in-requires-4
     same-length-4
     returns-4
+    add-messages-2
+    loop2-less-2
+    loop2-again-2
+    context-requires-3
+    read-message-requires
+    refused-in-requires-5
+    same-length-5
+    returns-5
     slice-aggregate-put-sound-behind
     put-sound-behind-requires
     enum-known-message
@@ -1133,38 +1333,51 @@ write-blocks-spec =
     enum-known-message-2
     cleared-scene-requires
     apply-rest-requires
-    read-update-requires
-    refused-in-requires-5
-    same-length-5
-    returns-5
-    cast-i-2
+    add-update-head-2
+    update-head-requires-2
     mul-b-2
     array-copy-out-b-2
-    fill-update-requires
+    update-fields-requires-2
     slice-aggregate-put-update-behind
     put-update-behind-requires
     mul-records-2
     array-set-from-records-2
     array-write-present-2
-    add-messages-2
-    loop2-less-2
-    loop2-again-2
-    slice-aggregate-put-copy
-    put-copy-requires
-    block-size-requires
-    sub-if15
+    add-messages-3
+    loop2-less-3
+    loop2-again-3
+    read-update-requires
     refused-in-requires-6
     same-length-6
     returns-6
+    cast-i-2
+    mul-b-3
+    array-copy-out-b-3
+    fill-update-requires
+    slice-aggregate-put-update-behind-2
+    put-update-behind-requires-2
+    mul-records-3
+    array-set-from-records-3
+    array-write-present-3
+    add-messages-4
+    loop2-less-4
+    loop2-again-4
+    slice-aggregate-put-copy
+    put-copy-requires
+    block-size-requires
+    sub-if20
+    refused-in-requires-7
+    same-length-7
+    returns-7
     slice-aggregate-store-block
     store-block-requires
     add-written
     add-blocks
     loop-less
     loop-again
-    same-length-7
-    returns-7
     same-length-8
     returns-8
     same-length-9
-    returns-9)
+    returns-9
+    same-length-10
+    returns-10)

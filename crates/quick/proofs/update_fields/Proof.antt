@@ -1,11 +1,11 @@
 -- `quick::update_fields` meets its contract: look, effects and pose follow the slots in turn.
 -- Assumes nothing.
-use mathlib.Core.List.{[], _∷_, _++_}
+use mathlib.Core.List.{_∷_}
 use mathlib.Core.Bool.{false}
 use Rattle.dem.specs.Bytes.{bit, bitOf}
 use Rattle.dem.specs.Layout.{number}
-use Rattle.message.specs.Values.{lookValues, poseValues}
-use Rattle.quick.specs.Spread.{lookSlots, poseSlots}
+use Rattle.message.specs.Values.{poseValues}
+use Rattle.quick.specs.Spread.{lookSlots, lookOf, poseSlots}
 use Rattle.quick.proofs.Fields.{slots-then}
 use Rattle.masked.proofs.MaskLaws.{bit-test}
 use borrow.Author.Needs.{needs}
@@ -20,12 +20,12 @@ pose-or-requires c κs = search needs
 
 returns : tie.Need-returns
 returns c =
-    let a = c .before .before .before .before .before .args in
+    let a = c .before .before .before .before .before .before .before .before .before .args in
     let five = bit-test (a .mask) 5 in
-    let l = c .before .before .before .look-or in
-    let p = c .before .before .pose-or in
+    let l = c .before .before .before .before .before .before .before .look-or in
+    let p = c .before .before .before .before .before .before .pose-or in
     let q = slots-then (a .d .now) (bit (a .mask)) (lookSlots (a .b .look)) (poseSlots (a .b .pose)) (a .at) false
-    (lookValues (l .result .look) ++ (number (l .result .effects) ∷ [])) (l .result .next) (l .result .needless) (poseValues (p .result .pose)) (p .result .next) (p .result .needless)
+    (lookOf (l .result)) (l .result .next) (l .result .needless) (poseValues (p .result .pose)) (p .result .next) (p .result .needless)
     (l .ensures .0, l .ensures .1 .0, l .ensures .1 .1 .0) (p .ensures .0, p .ensures .1 .0, p .ensures .1 .1) in
     ((λ i. number (bitOf (five i)) ∷ q .0 i), (q .1, q .2))
 

@@ -1,10 +1,11 @@
 -- `quick::update_head` meets its contract: the two bytes of the mask, then the one or two of the entity.
 -- Assumes nothing.
 use mathlib.Core.Path.{ap, ap₂, _∙_}
+use mathlib.Core.Bool.{false}
 use Prim.Native.Nat.{ℕ, _+_, _*_}
 use native.Mathlib.Omega.{arith}
 use Rattle.dem.specs.Bytes.{bit}
-use Rattle.quick.specs.Spread.{fieldOr, behind}
+use Rattle.quick.specs.Spread.{fieldOr, behind, needlessOr}
 use Rattle.quick.proofs.Fields.{head-made}
 use borrow.Author.Needs.{needs}
 use Rattle.quick.proofs.update_head.Statement.{statement}
@@ -62,7 +63,8 @@ returns c =
     let eq = _∙_ {b = behind (a .at) (bit (low .result) 0) 1} (h .ensures .1 .0) (ap (λ (m : ℕ). behind (a .at) (bit m 0) 1) (low .ensures)) in
     let em = ap₂ (λ (x y : ℕ). x * 256 + y) (c .before .before .before .before .before .wide2 .ensures) (c .before .before .before .before .wide3 .ensures) in
     let ehi = _∙_ {b = hi .result .value} (c .before .wide4 .ensures) (hi .ensures .0) in
-    (head-made (a .d .now) (a .at) (a .low) (h .result .value) (h .result .next) _ _ _ _ (omega arith) eh eq em (c .wide5 .ensures) ehi (hi .ensures .1 .0), omega arith)
+    let en = _∙_ {b = needlessOr false (a .d .now) (a .at) (bit (low .result) 0) 1 0} (h .ensures .1 .1 .0) (ap (λ (m : ℕ). needlessOr false (a .d .now) (a .at) (bit m 0) 1 0) (low .ensures)) in
+    (head-made (a .d .now) (a .at) (a .low) (h .result .value) (h .result .next) _ _ _ _ _ _ (omega arith) (c .before .before .before .before .before .before .before .before .before .fits .low .fits) (omega (arith, c .before .before .before .shared-slice-known2 .given (h .result .next) .fits, c .wide5 .ensures)) eh eq em (c .wide5 .ensures) ehi (hi .ensures .1 .0) en (hi .ensures .1 .1 .0), omega arith)
 
 pub update-head-spec : {M : Type 1} → statement M
 update-head-spec =

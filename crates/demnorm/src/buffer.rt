@@ -1,6 +1,5 @@
-// Standard input into an array, and an array's bytes to its front.
-ghost use mathlib.Core.Path.{_≡_};
-ghost use Prim.Native.Nat.{_-_, _≤_};
+// Standard input into an array.
+ghost use Prim.Native.Nat.{_≤_};
 ghost use lib.ListN.{length};
 use libc::STDIN_FILENO;
 
@@ -41,17 +40,4 @@ pub fn fill(room: &mut [u8], from: usize) -> Filled
         ended: false,
         failed: false,
     }
-}
-
-// Moves the bytes between two places to the front, and answers how many they are.
-pub fn move_front(room: &mut [u8], from: usize, to: usize) -> usize
-    requires { ⌜ (from ≤ to) × (to ≤ length (now room)) ⌝ }
-    ensures { λ r. ⌜ r ≡ to - from ⌝ }
-{
-    let mut i = 0;
-    while i < to - from {
-        room[i] = room[from + i];
-        i += 1;
-    }
-    to - from
 }

@@ -82,7 +82,7 @@ fn write_blocks(input: &mut [u8], output: &mut [u8], filled: Filled, from: usize
         let used = piece.used;
         scene = piece.scene;
         before = stream::place_behind(before, used);
-        let left = buffer::move_front(input, start + used, len);
+        let left = stream::move_front(input, start + used, len);
         let more = buffer::fill(input, left);
         if more.failed {
             complain_of_input();

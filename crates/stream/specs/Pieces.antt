@@ -1,9 +1,9 @@
 -- A recording in pieces, in normal form: what is told of one piece, and what the lent room holds afterwards.
 use mathlib.Core.List.{List}
 use mathlib.Core.Bool.{Bool, cond, not, _&&_}
-use Prim.Native.Nat.{ℕ, _+_}
+use Prim.Native.Nat.{ℕ, _+_, _-_}
 use lib.Dec.{ltb, eqb}
-use lib.ListN.{length}
+use lib.ListN.{length, take, drop}
 use Rattle.dem.specs.Refusal.{code, cutBlock, shortRoom}
 use Rattle.dem.specs.Scene.{Scene}
 use Rattle.dem.specs.Answer.{Answer, result, atEnd, refusal, Written, Normalised, Rewriting, normalBlocksAt, trackNormal}
@@ -76,3 +76,9 @@ lineOf w = record { told = lineTold (w .answer); scene = tt; room = w .room }
 unfoldable pub firstLine : List ℕ → Bool → List ℕ → Piece (Unit {0})
 firstLine bytes last room =
     cond (not last && ltb (length bytes) longestLine) (record { told = unused 0 0; scene = tt; room = room }) (lineOf (trackNormal bytes room))
+
+-- ---- the bytes that are left
+
+-- Those between two places.
+abbrev pub between : List ℕ → ℕ → ℕ → List ℕ
+between bytes from to = take (to - from) (drop from bytes)

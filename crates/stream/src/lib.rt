@@ -1,9 +1,10 @@
 // A recording that is read in pieces, in normal form: the work on one piece. None of these has a `requires`.
 ghost use mathlib.Core.Path.{_≡_};
-ghost use Prim.Native.Nat.{_≤_};
+ghost use Prim.Native.Nat.{_-_, _≤_, min};
 ghost use lib.ListN.{length};
+ghost use lib.Seq.{sets};
 ghost use Rattle.scene.specs.Views.{sceneOf};
-ghost use Rattle.stream.specs.Pieces.{placeBehind, refusalPlace, pieceAt, firstLine};
+ghost use Rattle.stream.specs.Pieces.{placeBehind, refusalPlace, pieceAt, firstLine, between};
 ghost use Rattle.stream.specs.Pieces.{standing as Pieces·standing};
 ghost use Rattle.stream.specs.Views.{pieceView, lineView};
 use cobbrundle::RewriteAnswer;
@@ -120,4 +121,32 @@ pub fn first_line(bytes: &[u8], last: bool, room: &mut [u8]) -> FirstLine
             place,
         },
     }
+}
+
+// How many of a room's bytes stand between two places of it.
+fn count_between(len: usize, from: usize, to: usize) -> usize
+    ensures { λ r. ⌜ r ≡ min (to - from) (len - from) ⌝ }
+{
+    if to < from {
+        return 0;
+    }
+    if len < from {
+        return 0;
+    }
+    if to < len { to - from } else { len - from }
+}
+
+// Moves the bytes between two places to the front, and answers how many they are.
+pub fn move_front(room: &mut [u8], from: usize, to: usize) -> usize
+    ensures { λ r. ⌜ now (room .exit) ≡ sets (now (room .entry)) 0 (between (now (room .entry)) from to) ⌝ }
+    ensures count { λ r. ⌜ r ≡ length (between (now (room .entry)) from to) ⌝ }
+    ensures within { λ r. ⌜ r ≤ length (now (room .entry)) ⌝ }
+{
+    let n = count_between(room.len(), from, to);
+    let mut k = 0;
+    while k < n {
+        room[k] = room[from + k];
+        k += 1;
+    }
+    n
 }

@@ -3,3 +3,4 @@ pub mod NameLaws
 pub mod NameLoops
 pub mod Places
 pub mod Scans
+pub mod Words

@@ -3,7 +3,7 @@ ghost use mathlib.Core.Path.{_≡_};
 ghost use mathlib.Core.Logic.{_≢_};
 ghost use mathlib.Core.Bool.{true};
 ghost use mathlib.Core.List.{[]};
-ghost use Prim.Native.Nat.{_+_, _≤_};
+ghost use Prim.Native.Nat.{_+_, _≤_, _<_};
 ghost use lib.ListN.{length};
 ghost use Rattle.dem.specs.Limits.{nameLimit, stringLimit};
 ghost use Rattle.dem.specs.Bytes.{free};
@@ -13,6 +13,7 @@ ghost use Rattle.wire.specs.Cursors.{gotten, stringAt, parseAt, placed};
 ghost use Rattle.strings.specs.Names.{namesIn};
 ghost use Rattle.strings.specs.Places.{roomAt, noZero, someText, noText};
 ghost use Rattle.strings.specs.Scans.{Plain, Scanned};
+ghost use Rattle.strings.specs.Words.{Held, PlainLow};
 use wire::Cursor;
 use wire::Text;
 use wire::TextAt;
@@ -93,7 +94,55 @@ fn sixteen_plain(s: &[u8], at: usize) -> bool
     a & b & c & d
 }
 
-// How many bytes a string goes on for, of those that can be tested sixteen at a time.
+// ---- the end inside eight bytes, found at once in one word that holds them, the first one lowest
+
+fn wide(x: u8) -> u64
+    ensures { λ r. ⌜ (r ≡ x) × (r < 256) ⌝ }
+{
+    x as u64
+}
+
+fn two_at(s: &[u8], at: usize) -> u64
+    requires { ⌜ at + 2 ≤ length (now s) ⌝ }
+    ensures { λ r. ⌜ Held (now (s .entry)) at 2 r ⌝ }
+{
+    wide(s[at]) + wide(s[at + 1]) * 0x100
+}
+
+fn four_at(s: &[u8], at: usize) -> u64
+    requires { ⌜ at + 4 ≤ length (now s) ⌝ }
+    ensures { λ r. ⌜ Held (now (s .entry)) at 4 r ⌝ }
+{
+    two_at(s, at) + two_at(s, at + 2) * 0x1_0000
+}
+
+fn eight_at(s: &[u8], at: usize) -> u64
+    requires { ⌜ at + 8 ≤ length (now s) ⌝ }
+    ensures { λ r. ⌜ Held (now (s .entry)) at 8 r ⌝ }
+{
+    four_at(s, at) + four_at(s, at + 4) * 0x1_0000_0000
+}
+
+// How many of a word's bytes stand before the first that is 0 or 255. No sum or difference leaves its byte, so each byte is tested
+// by itself: its high bit is set in `some` if it is not 0, and in `less` if it is not 255.
+fn plain_low(w: u64) -> usize
+    ensures { λ r. ⌜ (r ≤ 8) × PlainLow w r ⌝ }
+{
+    let low = w & 0x7f7f_7f7f_7f7f_7f7f;
+    let some = (low + 0x7f7f_7f7f_7f7f_7f7f) | w;
+    let less = (0xfefe_fefe_fefe_fefe - low) | !w;
+    let bad = ((some & less) & 0x8080_8080_8080_8080) ^ 0x8080_8080_8080_8080;
+    (u64::trailing_zeros(bad) / 8) as usize
+}
+
+fn plain_in_eight(s: &[u8], at: usize) -> usize
+    requires { ⌜ at + 8 ≤ length (now s) ⌝ }
+    ensures { λ r. ⌜ (r ≤ 8) × Plain (now (s .entry)) at r ⌝ }
+{
+    plain_low(eight_at(s, at))
+}
+
+// How many bytes a string goes on for, of those that can be tested sixteen or eight at a time.
 fn plain_run(s: &[u8], start: usize, room: usize) -> usize
     requires { ⌜ room ≡ roomAt (length (now s)) start ⌝ }
     ensures { λ r. ⌜ (r ≤ room) × Scanned (now (s .entry)) stringLimit start r ⌝ }
@@ -104,6 +153,13 @@ fn plain_run(s: &[u8], start: usize, room: usize) -> usize
             break;
         }
         n += 16;
+    }
+    while 8 <= room - n {
+        let k = plain_in_eight(s, start + n);
+        n += k;
+        if k < 8 {
+            break;
+        }
     }
     n
 }

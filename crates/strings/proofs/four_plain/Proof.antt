@@ -9,51 +9,51 @@ use Rattle.strings.proofs.four_plain.Reads as reads
 use Rattle.strings.proofs.four_plain.Lts as lts
 use Rattle.strings.proofs.is_plain.Reads as is-plain-reads
 
--- src/lib.rt:78:22
+-- src/lib.rt:79:22
 shared-slice-read-is-plain : tie.Need-shared-slice-read-is-plain
 shared-slice-read-is-plain c = search needs
 
--- src/lib.rt:78:9
+-- src/lib.rt:79:9
 is-plain-requires : tie.Need-is-plain-requires
 is-plain-requires c κs = search needs
 
--- src/lib.rt:79:24
+-- src/lib.rt:80:24
 add-is-plain : tie.Need-add-is-plain
 add-is-plain c = search needs
 
--- src/lib.rt:79:22
+-- src/lib.rt:80:22
 shared-slice-read-is-plain-2 : tie.Need-shared-slice-read-is-plain-2
 shared-slice-read-is-plain-2 c = search needs
 
--- src/lib.rt:79:9
+-- src/lib.rt:80:9
 is-plain-requires-2 : tie.Need-is-plain-requires-2
 is-plain-requires-2 c κs = search needs
 
--- src/lib.rt:80:24
+-- src/lib.rt:81:24
 add-is-plain-2 : tie.Need-add-is-plain-2
 add-is-plain-2 c = search needs
 
--- src/lib.rt:80:22
+-- src/lib.rt:81:22
 shared-slice-read-is-plain-3 : tie.Need-shared-slice-read-is-plain-3
 shared-slice-read-is-plain-3 c = search needs
 
--- src/lib.rt:80:9
+-- src/lib.rt:81:9
 is-plain-requires-3 : tie.Need-is-plain-requires-3
 is-plain-requires-3 c κs = search needs
 
--- src/lib.rt:81:24
+-- src/lib.rt:82:24
 add-is-plain-3 : tie.Need-add-is-plain-3
 add-is-plain-3 c = search needs
 
--- src/lib.rt:81:22
+-- src/lib.rt:82:22
 shared-slice-read-is-plain-4 : tie.Need-shared-slice-read-is-plain-4
 shared-slice-read-is-plain-4 c = search needs
 
--- src/lib.rt:81:9
+-- src/lib.rt:82:9
 is-plain-requires-4 : tie.Need-is-plain-requires-4
 is-plain-requires-4 c κs = search needs
 
--- src/lib.rt:74:1
+-- src/lib.rt:75:1
 returns : tie.Need-returns
 returns c e =
     let a = c .before .before .before .before .before .before .before .before .before .args in

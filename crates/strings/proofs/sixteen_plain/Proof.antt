@@ -8,35 +8,35 @@ use Rattle.strings.proofs.sixteen_plain.Reads as reads
 use Rattle.strings.proofs.sixteen_plain.Lts as lts
 use Rattle.strings.proofs.four_plain.Reads as four-plain-reads
 
--- src/lib.rt:89:9
+-- src/lib.rt:90:9
 four-plain-requires : tie.Need-four-plain-requires
 four-plain-requires c κs = search needs
 
--- src/lib.rt:90:27
+-- src/lib.rt:91:27
 add-four-plain : tie.Need-add-four-plain
 add-four-plain c = search needs
 
--- src/lib.rt:90:9
+-- src/lib.rt:91:9
 four-plain-requires-2 : tie.Need-four-plain-requires-2
 four-plain-requires-2 c κs = search needs
 
--- src/lib.rt:91:27
+-- src/lib.rt:92:27
 add-four-plain-2 : tie.Need-add-four-plain-2
 add-four-plain-2 c = search needs
 
--- src/lib.rt:91:9
+-- src/lib.rt:92:9
 four-plain-requires-3 : tie.Need-four-plain-requires-3
 four-plain-requires-3 c κs = search needs
 
--- src/lib.rt:92:27
+-- src/lib.rt:93:27
 add-four-plain-3 : tie.Need-add-four-plain-3
 add-four-plain-3 c = search needs
 
--- src/lib.rt:92:9
+-- src/lib.rt:93:9
 four-plain-requires-4 : tie.Need-four-plain-requires-4
 four-plain-requires-4 c κs = search needs
 
--- src/lib.rt:85:1
+-- src/lib.rt:86:1
 returns : tie.Need-returns
 returns c e =
     let a = c .before .before .before .before .before .args in

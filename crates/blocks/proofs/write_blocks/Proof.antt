@@ -399,7 +399,7 @@ placeAt c l =
       going = c .before .if3 .left;
     }
 
--- ---- an update that is read at once
+-- ---- an update in the loop over updates
 
 abbrev AtUpdate : Type 0
 AtUpdate = tie.In-loop3 Inv-loop3 μ-loop3 Inv-loop2 μ-loop2 Inv-loop μ-loop

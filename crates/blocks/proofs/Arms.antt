@@ -20,13 +20,14 @@ use Rattle.dem.specs.Limits.{entityCount}
 use Rattle.dem.specs.Bytes.{Bytes, Result, found, refused, mapResult}
 use Rattle.dem.specs.Layout.{Value, number, Layout, parse, print, tail, put}
 use Rattle.dem.specs.Scene.{Scene, Context, contextOf, cleared}
-use Rattle.dem.specs.Message.{isMessage, isUpdate, numberRule, kindLayout, layout, layoutIn, updateLayout, fillUpdate, fillClient, fill, sendUpdate, sendClient, normal, apply}
+use Rattle.dem.specs.Message.{isMessage, isUpdate, numberRule, kindLayout, layout, layoutIn, updateLayout, fillUpdate, fillClient, fillSound, fill, sendUpdate, sendClient, sendSound, normal, apply}
 use Rattle.dem.specs.Codec.{normalBytes}
 use Rattle.dem.specs.Recording.{readMessage, writeMessage, messages}
 use Rattle.dem.proofs.ResultLaws.{clash}
 use Rattle.dem.proofs.ByteLaws.{drop-bytes}
 use Rattle.dem.proofs.BlockLaws.{message-lawful}
-use Rattle.normal.specs.Normal.{soundOf, soundBytes, otherBytes}
+use Rattle.normal.specs.Normal.{soundOf, soundBytes}
+use Rattle.normal.proofs.SoundBytes.{no-sound}
 use Rattle.dem.proofs.LayoutLaws.{Allowed}
 use Rattle.dem.proofs.AtLaws.{one-at, parse-good}
 use Rattle.dem.proofs.MessageLaws.{kind-update, fill-update, fill-client}
@@ -43,8 +44,9 @@ use Rattle.message.specs.declared.Entity.{Entity}
 use Rattle.message.specs.declared.Look.{Look}
 use Rattle.message.specs.declared.Pose.{Pose}
 use Rattle.message.specs.declared.Serverinfo.{Serverinfo}
+use Rattle.message.specs.declared.Sound.{Sound}
 use Rattle.message.specs.declared.Update.{Update}
-use Rattle.message.specs.Values.{valuesOf, valuesBy, updateValues}
+use Rattle.message.specs.Values.{valuesOf, valuesBy, soundValues, updateValues}
 use Rattle.parts.specs.Kinds.{kindAt}
 use Rattle.scene.specs.Views.{Numbered, baselineNumbers, recordNumbers, recordValues, clientValues, sceneWith, withTables}
 use Rattle.scene.specs.declared.Baseline.{Baseline}
@@ -183,6 +185,11 @@ client-read s at x k c = go (eqb (c .refusal) 0) refl (parseAt s (here at) (kind
           read = ap (λ (b : Bool). cond b (found (number 15 ∷ []) (drop (c .at) s)) (refused (c .refusal) [])) e ∙ (cc) ∙ sym (ap (put (number 15)) f);
           filled = λ z. let w : true ≡ false = sym (eq-eqb (c .refusal) 0 z) ∙ e in clash (cc);
         }
+
+-- No mark is set in a cleared scene.
+pub cleared-present : (b : List Baseline) (e : List Record) (p : List Bool) (x : Rest) (n : ℕ) → held b e p x ≡ cleared n → held b e (replicate 449 false) x ≡ cleared n
+unfolding sceneWith
+cleared-present b e p x n g = ap (λ (q : List Bool). held b e q x) (sym (ap (λ (t : Scene). t .present) g)) ∙ g
 
 module _ (s : List ℕ) (at : ℕ) (l : at < length s) (b : List Baseline) (e : List Record) (p : List Bool) (x : Rest) where
   pub ended-refused : x .ended ≡ true → readMessage (held b e p x) (drop at s) ≡ refused 11 (drop at s)
@@ -335,6 +342,17 @@ module _ (s : List ℕ) (at : ℕ) (l : at < length s) (b : List Baseline) (e : 
         (ap (apply (held b e p x)) filled ∙ sym (g (map baselineNumbers b) (map recordNumbers e) p))
         _ (ap (λ (m : List Value). print (layoutIn (held b e p x)) (normal (held b e p x) m)) filled)
 
+    -- ---- a sound
+
+    -- The bytes of a sound.
+    abbrev pub soundForm : Sound → List ℕ
+    soundForm v = print (layoutIn (held b e p x)) (sendSound (tail (fillSound (soundValues v))))
+
+    pub sound-moved : (v : Sound) (c : Cursor) → gotten s (number Kind.sound ∷ soundValues v) c ≡ parseAt s (here at) (layoutIn (held b e p x)) → c .refusal ≡ 0
+        → Moved s (held b e p x) at (held b e p x) (c .at) (soundForm v)
+    unfolding sceneWith apply fill normal writeMessage
+    sound-moved v c q z = parsed-moved (number Kind.sound ∷ soundValues v) c q z _ refl _ refl
+
     -- ---- a message that is passed
 
     pub passed-parsed : (n : ℕ) → isPassed n ≡ true → n ≡ getD s at 0 → (k : Context) → k ≡ contextOf (held b e p x) → (us : List Value) (c : Cursor)
@@ -369,8 +387,8 @@ module _ (s : List ℕ) (at : ℕ) (l : at < length s) (b : List Baseline) (e : 
         first : (n : ℕ) (us : List Value) → valuesOf s m ≡ number n ∷ us → n ≡ getD s at 0
         first n us g = read-number s at n k us c l (sym (ap (λ (vs : List Value). gotten s vs c) g) ∙ q) z
 
-        -- Of a number that is neither clientdata's nor an update's.
-        module _ (n15 : 15 ≢ getD s at 0) (low : getD s at 0 < 128) where
+        -- Of a number that is no sound's, no clientdata's and no update's: it is its own normal form.
+        module _ (n6 : Kind.sound ≢ getD s at 0) (n15 : 15 ≢ getD s at 0) (low : getD s at 0 < 128) where
           unmasked : Unmasked m
           unmasked =
               record {
@@ -379,12 +397,13 @@ module _ (s : List ℕ) (at : ℕ) (l : at < length s) (b : List Baseline) (e : 
               }
 
           abbrev pub otherForm : List ℕ
-          otherForm = otherBytes (contextOf (held b e p x)) s at (c .at) m
+          otherForm = take (c .at - at) (drop at s)
 
           other-moved : (t : Scene) → apply (held b e p x) (fill (held b e p x) (valuesOf s m)) ≡ t → Moved s (held b e p x) at t (c .at) otherForm
           other-moved t f =
               parsed-moved (valuesOf s m) c other-parsed z t f _
-              (other-form (held b e p x) (placed s) (take (c .at - at) (drop at s)) m unmasked (parsed-bytes (valuesOf s m) c other-parsed h z))
+              (other-form (held b e p x) (placed s) otherForm m unmasked (parsed-bytes (valuesOf s m) c other-parsed h z)
+              ∙ ap (soundBytes (contextOf (held b e p x)) otherForm) (no-sound m (λ v g. n6 (first Kind.sound _ (ap (valuesOf s) g)))))
 
           pub baseline-moved : (i : Entity) (o : Look) (r : Pose) → m ≡ M.Baseline i o r
               → Moved s (held b e p x) at (held (set b (i .0) (record { look = o; pose = r })) e p x) (c .at) otherForm

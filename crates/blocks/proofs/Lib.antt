@@ -1,3 +1,4 @@
 pub mod Turns
 pub mod Arms
 pub mod SoFar
+pub mod Marks

@@ -1,10 +1,10 @@
 // Blocks one after the other, read and written in normal form in one loop that holds the scene.
 ghost use mathlib.Core.Path.{_≡_};
-ghost use mathlib.Core.List.{List, [], _∷_, _++_};
+ghost use mathlib.Core.List.{List, [], _∷_, _++_, map};
 ghost use mathlib.Core.Bool.{Bool, true, cond};
 ghost use Prim.Native.Nat.{ℕ, _+_, _-_, _≤_, _<_};
 ghost use lib.ListN.{length, take, drop};
-ghost use Rattle.dem.specs.Bytes.{leWrite};
+ghost use Rattle.dem.specs.Bytes.{leWrite, bitOf};
 ghost use Rattle.dem.specs.Layout.{number, print};
 ghost use Rattle.dem.specs.Recording.{angleLayout};
 ghost use Rattle.dem.specs.Scene.{contextOf, inRange};
@@ -12,6 +12,7 @@ ghost use Rattle.dem.specs.Codec.{runMost};
 ghost use Rattle.dem.specs.Recording.{blocks as recordingBlocks};
 ghost use Rattle.parts.specs.Kinds.{contextOf as numbersOf};
 ghost use Rattle.scene.specs.Views.{sceneWith, sceneOf};
+ghost use Rattle.blocks.specs.Marks.{marked};
 ghost use Rattle.blocks.specs.Runs.{refusedIn, quickUntil, toldOf, answered, stored, put, wroteOf, runOf, wrote};
 use heads::HeadAt;
 use message::Message;
@@ -122,6 +123,33 @@ fn quick_until(len: usize, end: usize) -> usize
     if end < last { end } else { last }
 }
 
+// ---- marks, as places: an entity is marked where its last update ends behind the last time. So a time takes no mark away one by one.
+
+fn marks_of(present: [bool; 449]) -> [usize; 449]
+    ensures { λ r. ⌜ r ≡ map bitOf present ⌝ }
+    ensures long { λ r. ⌜ length r ≡ 449 ⌝ }
+{
+    let mut marks = [0usize; 449];
+    let mut i: usize = 0;
+    while i < 449 {
+        marks[i] = present[i] as usize;
+        i += 1;
+    }
+    marks
+}
+
+fn present_of(marks: [usize; 449], since: usize) -> [bool; 449]
+    ensures { λ r. ⌜ r ≡ marked since marks ⌝ }
+{
+    let mut present = [false; 449];
+    let mut i: usize = 0;
+    while i < 449 {
+        present[i] = since < marks[i];
+        i += 1;
+    }
+    present
+}
+
 // The messages of a block, and slack for the fields of one that are not sent.
 const BODY_SIZE: usize = 8064;
 
@@ -143,7 +171,9 @@ pub fn write_blocks(
 {
     let mut baselines = given.baselines;
     let mut records = given.records;
-    let mut present = given.present;
+    let present = given.present;
+    let mut marks = marks_of(present);
+    let mut since: usize = 0;
     let mut rest = given.rest;
     let mut body = [0u8; BODY_SIZE];
     let stores = room <= out.len() - base;
@@ -199,7 +229,7 @@ pub fn write_blocks(
                     break;
                 }
                 records[i] = record;
-                present[i] = true;
+                marks[i] = to;
                 at = to;
                 messages += 1;
             }
@@ -239,7 +269,7 @@ pub fn write_blocks(
                                 size = w.size;
                                 kept = w.kept;
                                 records[i] = record;
-                                present[i] = true;
+                                marks[i] = at;
                                 at = to;
                                 messages += 1;
                                 continue;
@@ -273,7 +303,21 @@ pub fn write_blocks(
                     size = w.size;
                     kept = w.kept;
                     records[i] = record;
-                    present[i] = true;
+                    marks[i] = at;
+                    at = to;
+                }
+                6 => {
+                    let t = masked::sound_at(s, c);
+                    let next = t.cursor;
+                    let wrong = next.refusal;
+                    if wrong != 0 {
+                        return refused_in(given, blocks, start, wrong, at, written);
+                    }
+                    let heard = t.heard;
+                    let to = next.at;
+                    let w = normal::put_sound_behind(on, &mut body, size, s, kept, at, to, heard);
+                    size = w.size;
+                    kept = w.kept;
                     at = to;
                 }
                 7 => {
@@ -283,7 +327,7 @@ pub fn write_blocks(
                     if wrong != 0 {
                         return refused_in(given, blocks, start, wrong, at, written);
                     }
-                    present = [false; 449];
+                    since = at;
                     rest.timed = true;
                     rest.time = t.value;
                     at = next.at;
@@ -331,9 +375,6 @@ pub fn write_blocks(
                     }
                     let message = m.message;
                     let to = next.at;
-                    let w = normal::put_sound_behind(on, &mut body, size, s, kept, at, to, message);
-                    size = w.size;
-                    kept = w.kept;
                     match message {
                         Message::Baseline(entity, look, pose) => {
                             let i = entity.0 as usize;
@@ -344,7 +385,7 @@ pub fn write_blocks(
                             let clear = scene::cleared_scene(info.limit);
                             baselines = clear.baselines;
                             records = clear.records;
-                            present = clear.present;
+                            since = at;
                             rest = clear.rest;
                         }
                         _ => {
@@ -366,6 +407,7 @@ pub fn write_blocks(
         start = end;
         blocks += 1;
     }
+    let present = present_of(marks, since);
     let scene = Scene {
         baselines,
         records,

@@ -1,8 +1,7 @@
 -- The bytes of a sound in normal form: number and mask, the fields that differ, then its place. No other message is a sound.
 -- Assumes nothing.
-use mathlib.Core.Path.{_≡_, refl, sym, ap, _∙_}
+use mathlib.Core.Path.{_≡_, refl, sym, ap, _∙_, subst}
 use mathlib.Core.List.{List, [], _∷_, _++_}
-use mathlib.Core.Bool.{false, true≢false}
 use mathlib.Core.Option.{Option, none, some}
 use Prim.Native.Nat.{ℕ, _+_, _-_, _*_, _%_}
 use native.Mathlib.Omega.{arith}
@@ -26,7 +25,7 @@ use Rattle.scene.specs.Views.{filledSoundValues}
 use Rattle.scene.specs.declared.FilledSound.{FilledSound}
 use Rattle.normal.specs.Put.{Put}
 use Rattle.normal.specs.Sent.{sentBytes}
-use Rattle.normal.specs.Normal.{vectorBytes, placeBytes, soundOf, isThere, isSound, soundBytes, otherBytes}
+use Rattle.normal.specs.Normal.{vectorBytes, placeBytes, soundOf, soundBytes, otherBytes}
 use Rattle.normal.proofs.PutLaws.{put-same, put-then, second-byte}
 use Rattle.normal.proofs.UpdateBytes.{slot-bytes}
 
@@ -87,55 +86,54 @@ module _ (s : FilledSound) where
 abbrev pub others : List ℕ
 others = 0 ∷ 1 ∷ 2 ∷ 3 ∷ 4 ∷ 6 ∷ 7 ∷ 8 ∷ 9 ∷ 10 ∷ 11 ∷ 12 ∷ 13 ∷ 14 ∷ 15 ∷ 16 ∷ 17 ∷ 18 ∷ 19 ∷ 20 ∷ 21 ∷ 22 ∷ 23 ∷ 24 ∷ 25 ∷ 26 ∷ 27 ∷ 28 ∷ 29 ∷ 30 ∷ 31 ∷ 32 ∷ 33 ∷ []
 
+pub no-sound : (m : Message) → ((v : Sound) → m ≡ M.Sound v → ⊥) → soundOf m ≡ none
+no-sound M.Nop h = refl
+no-sound M.Disconnect h = refl
+no-sound (M.Stat _ _) h = refl
+no-sound (M.Version _) h = refl
+no-sound (M.View _) h = refl
+no-sound (M.Sound v) h = absurd (h v refl)
+no-sound (M.Time _) h = refl
+no-sound (M.Print _) h = refl
+no-sound (M.Stufftext _) h = refl
+no-sound (M.SetAngles _ _ _) h = refl
+no-sound (M.Serverinfo _) h = refl
+no-sound (M.Style _ _) h = refl
+no-sound (M.Name _ _) h = refl
+no-sound (M.Frags _ _) h = refl
+no-sound (M.Clientdata _) h = refl
+no-sound (M.Stopsound _ _) h = refl
+no-sound (M.Colours _ _) h = refl
+no-sound (M.Particle _) h = refl
+no-sound (M.Damage _ _ _) h = refl
+no-sound (M.Static _ _) h = refl
+no-sound (M.Baseline _ _ _) h = refl
+no-sound (M.Temporary _) h = refl
+no-sound (M.Pause _) h = refl
+no-sound (M.Signon _) h = refl
+no-sound (M.Centerprint _) h = refl
+no-sound M.Killed h = refl
+no-sound M.Secret h = refl
+no-sound (M.StaticSound _ _ _ _) h = refl
+no-sound M.Intermission h = refl
+no-sound (M.Finale _) h = refl
+no-sound (M.Track _ _) h = refl
+no-sound M.Sellscreen h = refl
+no-sound (M.Cutscene _) h = refl
+no-sound (M.Update _) h = refl
+
 pub not-sound : (m : Message) → OneOf others (tagOf Messages.the-type m) → soundOf m ≡ none
-not-sound M.Nop h = refl
-not-sound M.Disconnect h = refl
-not-sound (M.Stat _ _) h = refl
-not-sound (M.Version _) h = refl
-not-sound (M.View _) h = refl
-not-sound (M.Sound _) h = absurd (miss others 5 tt h)
-not-sound (M.Time _) h = refl
-not-sound (M.Print _) h = refl
-not-sound (M.Stufftext _) h = refl
-not-sound (M.SetAngles _ _ _) h = refl
-not-sound (M.Serverinfo _) h = refl
-not-sound (M.Style _ _) h = refl
-not-sound (M.Name _ _) h = refl
-not-sound (M.Frags _ _) h = refl
-not-sound (M.Clientdata _) h = refl
-not-sound (M.Stopsound _ _) h = refl
-not-sound (M.Colours _ _) h = refl
-not-sound (M.Particle _) h = refl
-not-sound (M.Damage _ _ _) h = refl
-not-sound (M.Static _ _) h = refl
-not-sound (M.Baseline _ _ _) h = refl
-not-sound (M.Temporary _) h = refl
-not-sound (M.Pause _) h = refl
-not-sound (M.Signon _) h = refl
-not-sound (M.Centerprint _) h = refl
-not-sound M.Killed h = refl
-not-sound M.Secret h = refl
-not-sound (M.StaticSound _ _ _ _) h = refl
-not-sound M.Intermission h = refl
-not-sound (M.Finale _) h = refl
-not-sound (M.Track _ _) h = refl
-not-sound M.Sellscreen h = refl
-not-sound (M.Cutscene _) h = refl
-not-sound (M.Update _) h = refl
+not-sound m h = no-sound m (λ v e. miss others 5 tt (subst (λ (n : Message). OneOf others (tagOf Messages.the-type n)) e h))
+
+-- A sound's bytes, from its fields filled in.
+pub sound-sent : (x : Context) (v : Sound) (f : FilledSound) → number Kind.sound ∷ filledSoundValues f ≡ fillSound (soundValues v)
+    → print (layout x) (sendSound (filledSoundValues f)) ≡ print (layout x) (sendSound (tail (fillSound (soundValues v))))
+sound-sent x v f = ap (λ (vs : List Value). print (layout x) (sendSound (tail vs)))
 
 module _ (x : Context) (s : List ℕ) (from to : ℕ) (m : Message) where
   pub other-sound : (v : Sound) (f : FilledSound) → m ≡ M.Sound v → number Kind.sound ∷ filledSoundValues f ≡ fillSound (soundValues v)
       → print (layout x) (sendSound (filledSoundValues f)) ≡ otherBytes x s from to m
-  other-sound v f e h =
-      ap (λ (vs : List Value). print (layout x) (sendSound (tail vs))) h ∙ ap (λ (n : Message). otherBytes x s from to n) (sym e)
+  other-sound v f e h = sound-sent x v f h ∙ ap (λ (n : Message). otherBytes x s from to n) (sym e)
 
   pub other-copied : soundOf m ≡ none → take (to - from) (drop from s) ≡ otherBytes x s from to m
   other-copied e = ap (λ (o : Option Sound). soundBytes x (take (to - from) (drop from s)) o) (sym e)
-
--- A message that is no sound has the bytes that were read.
-pub kept-other : (x : Context) (s : List ℕ) (from to : ℕ) (m : Message) → isSound m ≡ false → otherBytes x s from to m ≡ take (to - from) (drop from s)
-kept-other x s from to m = go (soundOf m)
-  where
-    go : (o : Option Sound) → isThere o ≡ false → soundBytes x (take (to - from) (drop from s)) o ≡ take (to - from) (drop from s)
-    go none e = refl
-    go (some v) e = absurd (true≢false e)

@@ -61,13 +61,6 @@ soundOf M.Sellscreen = none
 soundOf (M.Cutscene _) = none
 soundOf (M.Update _) = none
 
-abbrev pub isThere : Option Sound → Bool
-isThere none = false
-isThere (some _) = true
-
-abbrev pub isSound : Message → Bool
-isSound m = isThere (soundOf m)
-
 -- A sound in normal form; without one, the bytes as they were read.
 abbrev pub soundBytes : Context → List ℕ → Option Sound → List ℕ
 soundBytes x read none = read

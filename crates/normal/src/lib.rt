@@ -2,26 +2,27 @@
 // and the place moves on only where it is sent: no field needs a branch of its own.
 ghost use mathlib.Core.Path.{_≡_};
 ghost use mathlib.Core.List.{List, [], _∷_, _++_};
-ghost use mathlib.Core.Bool.{Bool, true, cond, _&&_};
+ghost use mathlib.Core.Bool.{Bool, true, cond};
 ghost use Prim.Native.Nat.{ℕ, _+_, _-_, _*_, _^_, _≤_, _<_};
 ghost use lib.ListN.{length, take, drop};
 ghost use lib.Seq.{sets};
 ghost use Rattle.dem.specs.Bytes.{leWrite, bitOf, fromBits};
-ghost use Rattle.dem.specs.Layout.{Value, number, print};
+ghost use Rattle.dem.specs.Layout.{Value, number, print, tail};
 ghost use Rattle.dem.specs.Scene.{Context};
-ghost use Rattle.dem.specs.Message.{layout, highByte, updateNumber, updateSlots, sendUpdate, clientSlots, clientMask, sendClient, sendSound};
+ghost use Rattle.dem.specs.Message.{layout, highByte, updateNumber, updateSlots, sendUpdate, clientSlots, clientMask, sendClient, fillSound, sendSound};
 ghost use Rattle.dem.specs.Recording.{angleLayout};
-ghost use Rattle.message.specs.Values.{lookValues, armsValues};
+ghost use Rattle.message.specs.Values.{lookValues, armsValues, soundValues};
 ghost use Rattle.scene.specs.Views.{baselineNumbers, recordValues, clientValues, filledSoundValues};
 ghost use Rattle.normal.specs.Put.{Put, Behind};
 ghost use Rattle.normal.specs.Sent.{sentBytes, defaults, bitsOf, bitsValues, fieldValues, lookSlots, poseSlots, updateBits, headBytes};
 ghost use Rattle.normal.specs.Client.{motionBits, motionBitsValues, fourSlots, clientFields, countsBytes, suppliesBytes};
-ghost use Rattle.normal.specs.Normal.{vectorBytes, placeBytes, otherBytes, isSound};
+ghost use Rattle.normal.specs.Normal.{vectorBytes, placeBytes, otherBytes};
 use message::Arms;
 use message::Look;
 use message::Message;
 use message::Motion;
 use message::Pose;
+use message::Sound;
 use message::Supplies;
 use message::Vector;
 use scene::Baseline;
@@ -483,33 +484,29 @@ pub fn put_client_behind(
     }
 }
 
-// A sound anew, likewise; every other message is kept as it was read.
+// A sound anew, likewise.
 pub fn put_sound_behind(
-    on: bool,
+    anew: bool,
     out: &mut [u8],
     size: usize,
     s: &[u8],
     kept: usize,
     at: usize,
     to: usize,
-    m: Message,
+    v: Sound,
 ) -> Scratch
     requires { ⌜ (kept ≤ at) × (at ≤ length (now s)) × (size + (at - kept) + 16 ≤ length (now out)) ⌝ }
-    ensures { λ q. ⌜ ((x : Context) → Behind (on && isSound m) (now (out .entry)) (now (out .exit)) size kept (q .size) (q .kept) to (take (at - kept) (drop kept (now (s .entry))) ++ otherBytes x (now (s .entry)) at to m)) ⌝ }
+    ensures { λ q. ⌜ ((x : Context) → Behind anew (now (out .entry)) (now (out .exit)) size kept (q .size) (q .kept) to (take (at - kept) (drop kept (now (s .entry))) ++ print (layout x) (sendSound (tail (fillSound (soundValues v)))))) ⌝ }
 {
-    if !on {
+    if !anew {
         return Scratch { size, kept };
     }
-    match m {
-        Message::Sound(v) => {
-            let a = put_copy(true, out, size, s, kept, at);
-            let end = put_sound(out, a, scene::fill_sound(v));
-            Scratch {
-                size: end,
-                kept: to,
-            }
-        }
-        _ => Scratch { size, kept },
+    let heard = v;
+    let a = put_copy(true, out, size, s, kept, at);
+    let end = put_sound(out, a, scene::fill_sound(heard));
+    Scratch {
+        size: end,
+        kept: to,
     }
 }
 

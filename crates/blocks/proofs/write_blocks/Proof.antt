@@ -25,7 +25,7 @@ use Rattle.dem.specs.Message.{Message, isMessage, layoutIn, updateSlots, sendUp
 use Rattle.wire.specs.Cursors.{gotten, parseAt}
 use Rattle.wire.specs.declared.Cursor.{Cursor}
 use Rattle.wire.proofs.Sticky.{here}
-use Rattle.message.specs.Values.{valuesOf, updateValues}
+use Rattle.message.specs.Values.{valuesOf, soundValues, updateValues}
 use Rattle.parts.specs.Kinds.{kindAt, contextOf as numbersOf}
 use Rattle.dem.specs.Codec.{readAll}
 use Rattle.dem.specs.Recording.{angleLayout, readMessage, messages, readBlock}
@@ -46,57 +46,58 @@ use Rattle.quick.proofs.QuickLaws.{QuickUpdate, quick-update}
 use Rattle.reader.specs.Passed.{isPassed}
 use Rattle.reader.proofs.Passing.{Passed, passed-read}
 use Rattle.normal.specs.Put.{Behind}
-use Rattle.normal.proofs.SoundBytes.{kept-other}
 use Rattle.blocks.specs.Runs.{Told, refusedIn, answered, Wrote, stored, put, wroteOf, runOf, wrote}
 use Rattle.blocks.specs.declared.WrittenAt.{WrittenAt}
+use Rattle.blocks.specs.Marks.{marked}
+use Rattle.blocks.proofs.Marks.{Within, within-more, within-bits, marked-set, marked-none, marked-bits, Before, before-later, before-marked, before-timed}
 use Rattle.blocks.proofs.SoFar.{and-false, or-false, soFar, far-begins, Grown, grown-kept, grown-behind}
 use Rattle.blocks.proofs.Turns.{Moved, before-stop, head-refused, head-found, moved-less, moved-short, moved-range, blockBytes, block-length, put-block-there, put-length, closed, closed-short, closed-fits, inside, on-refused, on-moved, on-end, run-over, run-refused, run-opened}
-use Rattle.blocks.proofs.Arms.{held, noBaseline, quick-moved, kept-form, timed, ended-refused, kind-parsed, parsed-refused, update-parsed, update-known, update-moved, time-moved, ClientRead, client-read, kept-client, client-moved, passed-parsed, passed-moved, other-parsed, baseline-known, baseline-moved, serverinfo-moved, rest-moved}
+use Rattle.blocks.proofs.Arms.{held, noBaseline, quick-moved, kept-form, timed, ended-refused, kind-parsed, parsed-refused, update-parsed, update-known, update-moved, time-moved, ClientRead, client-read, kept-client, client-moved, sound-moved, passed-parsed, passed-moved, other-parsed, baseline-known, baseline-moved, serverinfo-moved, cleared-present, rest-moved}
 use Rattle.blocks.proofs.write_blocks.Statement.{statement}
 use Rattle.blocks.proofs.write_blocks.Tie as tie
 
 -- Messages of a block from one place to another: the bounds that are kept, and that what is told and written from the one place on is what is
 -- told and written from the other on.
-abbrev Along : (ℕ → Scene → List ℕ → Result (List Message) → Wrote) → Bool → List ℕ → ℕ → ℕ → Scene → List ℕ → ℕ → ℕ → Scene → List ℕ → ℕ → ℕ → ℕ → Type 0
-Along told on s end messages₀ scene₀ form₀ at₀ messages′ scene body at size kept =
+abbrev Along : (ℕ → Scene → List ℕ → Result (List Message) → Wrote) → Bool → List ℕ → ℕ → ℕ → Scene → List ℕ → ℕ → ℕ → Scene → List ℕ → ℕ → ℕ → ℕ → List ℕ → ℕ → Type 0
+Along told on s end messages₀ scene₀ form₀ at₀ messages′ scene body at size kept marks since =
     (messages′ + (length s - at) ≤ end) × (size + (length s - kept) ≤ 8000) × (length body ≡ 8064) × (inRange scene ≡ true)
     × (told messages₀ scene₀ form₀ (readAll messages scene₀ (drop at₀ s)) ≡ told messages′ scene (soFar on body size s kept at) (readAll messages scene (drop at s)))
-    × (kept ≤ at)
+    × (kept ≤ at) × Before marks since at (length s)
 
 -- The loop over messages.
 abbrev Inv-loop2 : tie.InvT-loop2
-Inv-loop2 d from most given on room out base baselines₀ records₀ present₀ rest₀ body₀ stores start blocks messages₀ written refusal h at₀ end s stop size₀ kept₀ baselines records present rest body messages′ at size kept =
+Inv-loop2 d from most given on room out base baselines₀ records₀ marks₀ since₀ rest₀ body₀ stores start blocks messages₀ written refusal h at₀ end s stop size₀ kept₀ baselines records marks since rest body messages′ at size kept =
     let angles = number (h .angle0) ∷ number (h .angle1) ∷ number (h .angle2) ∷ [] in
     Along (inside (sceneOf given) d on stores room base blocks (most - blocks - 1) start end angles written out) on s end
-    messages₀ (held baselines₀ records₀ present₀ rest₀) [] at₀ messages′ (held baselines records present rest) body at size kept
+    messages₀ (held baselines₀ records₀ (marked since₀ marks₀) rest₀) [] at₀ messages′ (held baselines records (marked since marks) rest) body at size kept marks since
 
 abbrev μ-loop2 : tie.MeasureT-loop2
-μ-loop2 d from most given on room out base baselines₀ records₀ present₀ rest₀ body₀ stores start blocks messages₀ written refusal h at₀ end s stop size₀ kept₀ baselines records present rest body messages at size kept =
+μ-loop2 d from most given on room out base baselines₀ records₀ marks₀ since₀ rest₀ body₀ stores start blocks messages₀ written refusal h at₀ end s stop size₀ kept₀ baselines records marks since rest body messages at size kept =
     length s - at
 
 -- The loop over updates inside it, which leaves the baselines and the rest as they are and does not go back.
 abbrev Inv-loop3 : tie.InvT-loop3
-Inv-loop3 d from most given on room out base baselines records₀ present₀ rest body stores start blocks messages₀ written refusal h at₀ end s stop size kept records present messages at =
+Inv-loop3 d from most given on room out base baselines records₀ marks₀ since rest body stores start blocks messages₀ written refusal h at₀ end s stop size kept records marks messages at =
     let angles = number (h .angle0) ∷ number (h .angle1) ∷ number (h .angle2) ∷ [] in
     Along (inside (sceneOf given) d on stores room base blocks (most - blocks - 1) start end angles written out) on s end
-    messages₀ (held baselines records₀ present₀ rest) (soFar on body size s kept at₀) at₀ messages (held baselines records present rest) body at size kept
+    messages₀ (held baselines records₀ (marked since marks₀) rest) (soFar on body size s kept at₀) at₀ messages (held baselines records (marked since marks) rest) body at size kept marks since
     × (at₀ ≤ at)
 
 abbrev μ-loop3 : tie.MeasureT-loop3
-μ-loop3 d from most given on room out base baselines records₀ present₀ rest body stores start blocks messages₀ written refusal h at₀ end s stop size kept records present messages at =
+μ-loop3 d from most given on room out base baselines records₀ marks₀ since rest body stores start blocks messages₀ written refusal h at₀ end s stop size kept records marks messages at =
     length s - at
 
 -- The loop over blocks.
 abbrev Inv-loop : tie.InvT-loop
-Inv-loop d from most given on room out₀ base baselines₀ records₀ present₀ rest₀ body₀ stores start₀ blocks₀ messages₀ written₀ refusal₀ out baselines records present rest body start blocks messages written refusal =
-    (refusal ≡ 0) × (start ≤ length d) × (messages ≤ start) × (blocks ≤ most) × (inRange (held baselines records present rest) ≡ true)
-    × (written ≤ room) × (length out ≡ length out₀) × (length body ≡ 8064)
+Inv-loop d from most given on room out₀ base baselines₀ records₀ marks₀ since₀ rest₀ body₀ stores start₀ blocks₀ messages₀ written₀ refusal₀ out baselines records marks since rest body start blocks messages written refusal =
+    (refusal ≡ 0) × (start ≤ length d) × (messages ≤ start) × (blocks ≤ most) × (inRange (held baselines records (marked since marks) rest) ≡ true)
+    × (written ≤ room) × (length out ≡ length out₀) × (length body ≡ 8064) × Within marks (start + 1) × (since ≤ start)
     × (wroteOf (sceneOf given) (length d) stores base 0 0 0 out₀ (runOf on most room (sceneOf given) (drop from d))
     ≡ wroteOf (sceneOf given) (length d) stores base blocks messages written out
-    (runOf on (most - blocks) (room - written) (held baselines records present rest) (drop start d)))
+    (runOf on (most - blocks) (room - written) (held baselines records (marked since marks) rest) (drop start d)))
 
 abbrev μ-loop : tie.MeasureT-loop
-μ-loop d from most given on room out₀ base baselines₀ records₀ present₀ rest₀ body₀ stores start₀ blocks₀ messages₀ written₀ refusal₀ out baselines records present rest body start blocks messages written refusal =
+μ-loop d from most given on room out₀ base baselines₀ records₀ marks₀ since₀ rest₀ body₀ stores start₀ blocks₀ messages₀ written₀ refusal₀ out baselines records marks since rest body start blocks messages written refusal =
     most - blocks
 
 -- ---- where a block is to be read
@@ -105,13 +106,13 @@ abbrev AtBlock : Type 0
 AtBlock = tie.In-loop Inv-loop3 μ-loop3 Inv-loop2 μ-loop2 Inv-loop μ-loop
 
 abbrev begun : AtBlock → tie.Start Inv-loop3 μ-loop3 Inv-loop2 μ-loop2 Inv-loop μ-loop
-begun c = c .before .before .before .before .before .before .before .before
+begun c = c .before .before .before .before .before .before .before .before .before
 
 abbrev input : AtBlock → List ℕ
 input c = begun c .args .d .now
 
 abbrev before : AtBlock → Scene
-before c = held (c .before .loop .baselines) (c .before .loop .records) (c .before .loop .present) (c .before .loop .rest)
+before c = held (c .before .loop .baselines) (c .before .loop .records) (marked (c .before .loop .since) (c .before .loop .marks)) (c .before .loop .rest)
 
 abbrev stores : AtBlock → Bool
 stores c = let a = begun c .args in stored (a .out .now) (a .base) (a .room)
@@ -123,7 +124,7 @@ whole c =
     wroteOf (sceneOf (a .given)) (length (input c)) (stores c) (a .base) 0 0 0 (a .out .now) (runOf (a .on) (a .most) (a .room) (sceneOf (a .given)) (drop (a .from) (input c)))
 
 byte-fits : (c : AtBlock) (i : ℕ) → getD (input c) i 0 < 256
-byte-fits c i = c .before .before .before .before .before .before .before .shared-slice-known .given i .fits
+byte-fits c i = c .before .before .before .before .before .before .before .before .shared-slice-known .given i .fits
 
 bytes : (c : AtBlock) → Bytes (input c)
 bytes c = bytes-of (input c) (byte-fits c)
@@ -143,7 +144,7 @@ told c =
     let a = begun c .args in
     let l = c .before .loop in
     let n : a .most - l .blocks ≡ suc (a .most - l .blocks - 1) = omega (arith, more c) in
-    l .inv .8
+    l .inv .10
     ∙ ap (λ (k : ℕ). wroteOf (sceneOf (a .given)) (length (input c)) (stores c) (a .base) (l .blocks) (l .messages) (l .written) (l .out)
     (runOf (a .on) k (a .room - l .written) (before c) (drop (l .start) (input c)))) n
 
@@ -206,7 +207,7 @@ opened o =
     (bytes b) (omega (arith, within o)) (h .result .size) _ (o .before .before .before .before .if1 .left) (head-found (input b) (l .start) (h .result) (h .ensures .0) (o .before .before .if2 .left))
 
 -- The messages so far were read and written, from the block's first on.
-abbrev Reached : Opened → ℕ → Scene → List ℕ → ℕ → ℕ → ℕ → Type 0
+abbrev Reached : Opened → ℕ → Scene → List ℕ → ℕ → ℕ → ℕ → List ℕ → ℕ → Type 0
 Reached o = Along (from-here o) (begun (blockOf o) .args .on) (body o) (end o) (blockOf o .before .loop .messages) (before (blockOf o)) [] (blockOf o .before .loop .start + 16)
 
 -- What is told of a refusal inside the block, and that an answer says so.
@@ -224,9 +225,9 @@ refuse : (o : Opened) (k place : ℕ)
     → (r : WrittenAt) → Refuses o k place r → Answered o r
 refuse o k place q r e = (λ i. record { told = e .0 i; written = e .1 i; room = blockOf o .before .loop .out }) ∙ q
 
-refuse-message : (o : Opened) (count : ℕ) (t : Scene) (filled : List ℕ) (at size kept : ℕ) → Reached o count t filled at size kept → at < length (body o) → (k : ℕ)
+refuse-message : (o : Opened) (count : ℕ) (t : Scene) (filled : List ℕ) (at size kept : ℕ) (marks : List ℕ) (since : ℕ) → Reached o count t filled at size kept marks since → at < length (body o) → (k : ℕ)
     → readMessage t (drop at (body o)) ≡ refused k (drop at (body o)) → (r : WrittenAt) → Refuses o k at r → Answered o r
-refuse-message o count t filled at size kept i l k q =
+refuse-message o count t filled at size kept marks since i l k q =
     let a = begun (blockOf o) .args in
     let b = blockOf o .before .loop in
     refuse o k at
@@ -239,19 +240,23 @@ refuse-message o count t filled at size kept i l k q =
 pub record Place (o : Opened) : Type 0 where
   baselines : List Baseline
   records : List Record
-  present : List Bool
+  marks : List ℕ
+  since : ℕ
   rest : Rest
   filled : List ℕ
   count : ℕ
   at : ℕ
   size : ℕ
   kept : ℕ
-  reached : Reached o count (held baselines records present rest) filled at size kept
+  reached : Reached o count (held baselines records (marked since marks) rest) filled at size kept marks since
   inside : at < length (body o)
   going : rest .ended ≡ false
 
+abbrev present : {o : Opened} → Place o → List Bool
+present p = marked (p .since) (p .marks)
+
 abbrev scene : {o : Opened} → Place o → Scene
-scene p = held (p .baselines) (p .records) (p .present) (p .rest)
+scene p = held (p .baselines) (p .records) (present p) (p .rest)
 
 -- What a reader of messages answered there.
 abbrev Parsed : {o : Opened} → Place o → List Value → Cursor → Type 0
@@ -277,13 +282,13 @@ module _ {o : Opened} (p : Place o) where
   module _ (vs : List Value) (k : Cursor) (q : Parsed p vs k) where
     refuse-parsed : (k .refusal ≡ 0 → ⊥) → (r : WrittenAt) → Refuses o (k .refusal) (p .at) r → Answered o r
     refuse-parsed z =
-        refuse-message o (p .count) (scene p) (p .filled) (p .at) (p .size) (p .kept) (p .reached) (p .inside) (k .refusal)
-        (parsed-refused (body o) (p .at) (p .inside) (p .baselines) (p .records) (p .present) (p .rest) (p .going) vs k q z)
+        refuse-message o (p .count) (scene p) (p .filled) (p .at) (p .size) (p .kept) (p .marks) (p .since) (p .reached) (p .inside) (k .refusal)
+        (parsed-refused (body o) (p .at) (p .inside) (p .baselines) (p .records) (present p) (p .rest) (p .going) vs k q z)
 
   -- A message of kind n.
   kind-here : (n : ℕ) (x : Context) (vs : List Value) (k : Cursor) → n ≡ getD (body o) (p .at) 0
       → isMessage n ≡ true → n ≢ Kind.static → x ≡ contextOf (scene p) → gotten (body o) vs k ≡ kindAt (body o) (here (p .at + 1)) x n → Parsed p vs k
-  kind-here = kind-parsed (body o) (p .at) (p .inside) (p .baselines) (p .records) (p .present) (p .rest) (p .going)
+  kind-here = kind-parsed (body o) (p .at) (p .inside) (p .baselines) (p .records) (present p) (p .rest) (p .going)
 
   -- It stays as it was read, or is put anew behind what is kept.
   module _ (t : Scene) (to : ℕ) (form : List ℕ) (m : Moved (body o) (scene p) (p .at) t to form) where
@@ -316,9 +321,13 @@ module _ {o : Opened} (p : Place o) where
     step-less : length (body o) - to < length (body o) - p .at
     step-less = less t to (s .form) (s .moved)
 
+    later : Before (p .marks) (p .since) to (length (body o))
+    later = before-later (p .marks) (p .since) (p .at) (length (body o)) (p .reached .6) to (omega (arith, step-less))
+
     -- One message on.
-    step-on : Along (from-here o) (begun (blockOf o) .args .on) (body o) (end o) (p .count) (scene p) (soFar (begun (blockOf o) .args .on) (p .filled) (p .size) (body o) (p .kept) (p .at)) (p .at) (p .count + 1) t filled to size kept
-    step-on =
+    step-on : (marks : List ℕ) (since : ℕ) → Before marks since to (length (body o))
+        → Along (from-here o) (begun (blockOf o) .args .on) (body o) (end o) (p .count) (scene p) (soFar (begun (blockOf o) .args .on) (p .filled) (p .size) (body o) (p .kept) (p .at)) (p .at) (p .count + 1) t filled to size kept marks since
+    step-on marks since w =
         let a = begun (blockOf o) .args in
         let l = blockOf o .before .loop in
         let g = s .grown in (
@@ -330,7 +339,19 @@ module _ {o : Opened} (p : Place o) where
               (p .count) (scene p) (soFar (a .on) (p .filled) (p .size) (body o) (p .kept) (p .at)) (p .at) t to (s .form) (p .inside) (s .moved)
               ∙ ap (λ (x : List ℕ). from-here o (p .count + 1) t x (readAll messages t (drop to (body o)))) (sym (g .far)),
           g .inside,
+          w,
         )
+
+-- An update marks its entity by a place behind the last time.
+module _ {o : Opened} (p : Place o) (e : List Record) (i to : ℕ) (form : List ℕ) (m : Moved (body o) (scene p) (p .at) (held (p .baselines) e (set (present p) i true) (p .rest)) to form)
+    (n : ℕ) (from : p .at ≤ n) (most : n ≤ to) (within : n ≤ length (body o)) where
+  marked-moved : Moved (body o) (scene p) (p .at) (held (p .baselines) e (marked (p .since) (set (p .marks) i n)) (p .rest)) to form
+  marked-moved =
+      subst (λ (q : List Bool). Moved (body o) (scene p) (p .at) (held (p .baselines) e q (p .rest)) to form)
+      (sym (marked-set (p .since) (p .marks) i n (omega (arith, p .reached .6 .time-before)))) m
+
+  marked-later : Before (set (p .marks) i n) (p .since) to (length (body o))
+  marked-later = before-marked (p .marks) (p .since) (p .at) (length (body o)) (p .reached .6) to (omega (arith, less p _ to form m)) i n most within
 
 -- ---- an update that is read at once
 
@@ -354,21 +375,32 @@ module _ {o : Opened} (p : Place o) (n : ℕ) (h : UpdateHead) (f : RecordAt) (l
       quick-update d (end o) (p .at + 1) n (getD (p .baselines) (h .entity) noBaseline) (within o) small h f (l .head) (l .fields) (l .next) (l .low) (l .known) (l .ends)
       (l .flag) (l .large) (byte-fits (blockOf o))
 
-  abbrev updated : Scene
-  updated = held (p .baselines) (set (p .records) (h .entity) (f .record)) (set (p .present) (h .entity) true) (p .rest)
+  abbrev updated : ℕ → Scene
+  updated m = held (p .baselines) (set (p .records) (h .entity) (f .record)) (marked (p .since) (set (p .marks) (h .entity) m)) (p .rest)
 
   abbrev form : List ℕ
   form = print (layoutIn (scene p)) (sendUpdate (baselineNumbers (getD (p .baselines) (h .entity) noBaseline)) (number (h .entity) ∷ recordValues (f .record)))
 
-  loaded-moved : Moved (body o) (scene p) (p .at) updated (f .next) form
-  loaded-moved =
-      quick-moved (body o) (p .at) (p .inside) (p .baselines) (p .records) (p .present) (p .rest) (p .going) n (l .there) (l .large)
+  at-quick : Moved (body o) (scene p) (p .at) (held (p .baselines) (set (p .records) (h .entity) (f .record)) (set (present p) (h .entity) true) (p .rest)) (f .next) form
+  at-quick =
+      quick-moved (body o) (p .at) (p .inside) (p .baselines) (p .records) (present p) (p .rest) (p .going) n (l .there) (l .large)
       (at-once .high) (h .entity) (at-once .sent) (f .next) (f .record) (at-once .parsed) (at-once .filled)
+
+  -- It is marked by its own place, or the one behind it.
+  module _ (m : ℕ) (from : p .at ≤ m) (most : m ≤ f .next) where
+    inside-too : m ≤ length (body o)
+    inside-too = omega (arith, l .ends, body-long o)
+
+    loaded-moved : Moved (body o) (scene p) (p .at) (updated m) (f .next) form
+    loaded-moved = marked-moved p (set (p .records) (h .entity) (f .record)) (h .entity) (f .next) form at-quick m from most inside-too
+
+    loaded-later : Before (set (p .marks) (h .entity) m) (p .since) (f .next) (length (body o))
+    loaded-later = marked-later p (set (p .records) (h .entity) (f .record)) (h .entity) (f .next) form at-quick m from most inside-too
 
   -- Where nothing was sent needlessly, it stays as it was read.
   loaded-kept : f .needless ≡ false → h .needless ≡ false → form ≡ take (f .next - p .at) (drop (p .at) (body o))
   loaded-kept none needed =
-      kept-form (body o) (p .at) (p .inside) (p .baselines) (p .records) (p .present) (p .rest) (p .going) n (l .there) (l .large)
+      kept-form (body o) (p .at) (p .inside) (p .baselines) (p .records) (present p) (p .rest) (p .going) n (l .there) (l .large)
       (at-once .high) (h .entity) (at-once .sent) (f .next) (f .record) (at-once .parsed) (at-once .filled) (body-bytes o) (at-once .kept none needed)
 
 -- ---- the loop over updates
@@ -377,17 +409,18 @@ abbrev AtRun : Type 0
 AtRun = tie.At-loop3 Inv-loop3 μ-loop3 Inv-loop2 μ-loop2 Inv-loop μ-loop
 
 reached : (c : AtRun)
-    → Reached (c .before .before .before .before .before) (c .loop3 .messages) (held (c .before .before .before .loop2 .baselines) (c .loop3 .records) (c .loop3 .present) (c .before .before .before .loop2 .rest)) (c .before .before .before .loop2 .body) (c .loop3 .at) (c .before .before .before .loop2 .size) (c .before .before .before .loop2 .kept)
+    → Reached (c .before .before .before .before .before) (c .loop3 .messages) (held (c .before .before .before .loop2 .baselines) (c .loop3 .records) (marked (c .before .before .before .loop2 .since) (c .loop3 .marks)) (c .before .before .before .loop2 .rest)) (c .before .before .before .loop2 .body) (c .loop3 .at) (c .before .before .before .loop2 .size) (c .before .before .before .loop2 .kept) (c .loop3 .marks) (c .before .before .before .loop2 .since)
 reached c =
     let i = c .loop3 .inv .0 in
-    (i .0, i .1, i .2, i .3, c .before .before .before .loop2 .inv .4 ∙ i .4, i .5)
+    (i .0, i .1, i .2, i .3, c .before .before .before .loop2 .inv .4 ∙ i .4, i .5, i .6)
 
 abbrev placeAt : (c : AtRun) → c .loop3 .at < length (body (c .before .before .before .before .before)) → Place (c .before .before .before .before .before)
 placeAt c l =
     record {
       baselines = c .before .before .before .loop2 .baselines;
       records = c .loop3 .records;
-      present = c .loop3 .present;
+      marks = c .loop3 .marks;
+      since = c .before .before .before .loop2 .since;
       rest = c .before .before .before .loop2 .rest;
       filled = c .before .before .before .loop2 .body;
       count = c .loop3 .messages;
@@ -453,17 +486,17 @@ found c =
 moves : (c : Found) → updateOf c .before .loop3 .at < fieldsOf c .next
 moves c =
     let p = update (updateOf c) in
-    omega (arith, less p _ (fieldsOf c .next) _ (loaded-moved p (kind (updateOf c)) (headOf c) (fieldsOf c) (found c)))
+    omega (arith, less p _ (fieldsOf c .next) _ (at-quick p (kind (updateOf c)) (headOf c) (fieldsOf c) (found c)))
 
 -- It stays as it was read: where it is written, nothing was sent needlessly.
 step-once : (c : tie.Else8 Inv-loop3 μ-loop3 Inv-loop2 μ-loop2 Inv-loop μ-loop)
     → let r = c .before .before .before in
     let p = update (updateOf r) in
-    Step p (updated p (kind (updateOf r)) (headOf r) (fieldsOf r) (found r)) (fieldsOf r .next) (p .filled) (p .size) (p .kept)
+    Step p (updated p (kind (updateOf r)) (headOf r) (fieldsOf r) (found r) (fieldsOf r .next)) (fieldsOf r .next) (p .filled) (p .size) (p .kept)
 step-once c =
     let r = c .before .before .before in
     let p = update (updateOf r) in
-    kept-step p _ (fieldsOf r .next) _ (loaded-moved p (kind (updateOf r)) (headOf r) (fieldsOf r) (found r))
+    kept-step p _ (fieldsOf r .next) _ (loaded-moved p (kind (updateOf r)) (headOf r) (fieldsOf r) (found r) (fieldsOf r .next) (omega (arith, moves r)) (omega arith))
     (λ on.
     let n = or-false (fieldsOf r .needless) (headOf r .needless) (and-false _ _ on (c .if8 .left)) in
     loaded-kept p (kind (updateOf r)) (headOf r) (fieldsOf r) (found r) (n .0) (n .1))
@@ -479,9 +512,14 @@ inBlock c = c .before .before .before .before .before .before .before
 abbrev message : (c : AtMessage) → Place (inBlock c)
 message c = placeAt (c .before .before) (c .if9 .left)
 
+sound-parsed : (c : tie.After-sound-at Inv-loop3 μ-loop3 Inv-loop2 μ-loop2 Inv-loop μ-loop) → Parsed (message (c .before .before .before)) (number Kind.sound ∷ soundValues (c .sound-at .result .heard)) (c .sound-at .result .cursor)
+sound-parsed c =
+    let x = contextOf (scene (message (c .before .before .before))) in
+    kind-here (message (c .before .before .before)) Kind.sound x _ (c .sound-at .result .cursor) (sym (c .before .match .keys1)) refl (λ z. omega arith) refl (c .sound-at .ensures x)
+
 time-parsed : (c : tie.After-time-at Inv-loop3 μ-loop3 Inv-loop2 μ-loop2 Inv-loop μ-loop) → Parsed (message (c .before .before .before .before)) (number 7 ∷ number (c .time-at .result .value) ∷ []) (c .time-at .result .cursor)
 time-parsed c =
-    kind-here (message (c .before .before .before .before)) 7 _ _ (c .time-at .result .cursor) (sym (c .before .before .match .keys1)) refl (λ z. omega arith)
+    kind-here (message (c .before .before .before .before)) 7 _ _ (c .time-at .result .cursor) (sym (c .before .before .match .keys2)) refl (λ z. omega arith)
     (c .before .context .ensures _ _ _) (c .time-at .ensures)
 
 client-here : (c : tie.After-client-at Inv-loop3 μ-loop3 Inv-loop2 μ-loop2 Inv-loop μ-loop)
@@ -493,46 +531,46 @@ client-here c =
 
 client-parsed : (c : tie.After-client-at Inv-loop3 μ-loop3 Inv-loop2 μ-loop2 Inv-loop μ-loop) → Parsed (message (c .before .before .before)) (number 15 ∷ client-here c .sent) (c .client-at .result .cursor)
 client-parsed c =
-    kind-here (message (c .before .before .before)) 15 (contextOf (scene (message (c .before .before .before)))) _ (c .client-at .result .cursor) (sym (c .before .match .keys2)) refl (λ z. omega arith) refl (client-here c .read)
+    kind-here (message (c .before .before .before)) 15 (contextOf (scene (message (c .before .before .before)))) _ (c .client-at .result .cursor) (sym (c .before .match .keys3)) refl (λ z. omega arith) refl (client-here c .read)
 
 -- Where nothing was sent needlessly, it is its own normal form.
 client-again : (c : tie.After-client-at Inv-loop3 μ-loop3 Inv-loop2 μ-loop2 Inv-loop μ-loop) → c .client-at .result .needless ≡ false
     → Parsed (message (c .before .before .before)) (sendClient (clientValues (c .client-at .result .client))) (c .client-at .result .cursor)
 client-again c e =
     let x = contextOf (scene (message (c .before .before .before))) in
-    kind-here (message (c .before .before .before)) 15 x _ (c .client-at .result .cursor) (sym (c .before .match .keys2)) refl (λ z. omega arith) refl (c .client-at .ensures .1 x e)
+    kind-here (message (c .before .before .before)) 15 x _ (c .client-at .result .cursor) (sym (c .before .match .keys3)) refl (λ z. omega arith) refl (c .client-at .ensures .1 x e)
 
 other-read : (c : tie.After-read-message Inv-loop3 μ-loop3 Inv-loop2 μ-loop2 Inv-loop μ-loop) → Parsed (message (c .before .before .before .before .before .before .before)) (valuesOf (body (inBlock (c .before .before .before .before .before .before .before))) (c .read-message .result .message)) (c .read-message .result .cursor)
 other-read c =
     let p = message (c .before .before .before .before .before .before .before) in
     let o = inBlock (c .before .before .before .before .before .before .before) in
-    other-parsed (body o) (p .at) (p .inside) (p .baselines) (p .records) (p .present) (p .rest) (p .going) (body-bytes o) _
+    other-parsed (body o) (p .at) (p .inside) (p .baselines) (p .records) (present p) (p .rest) (p .going) (body-bytes o) _
     (c .before .context3 .ensures _ _ _) (c .read-message .result .message) (c .read-message .result .cursor) (c .read-message .ensures)
 
 update-read : (c : tie.After-read-update Inv-loop3 μ-loop3 Inv-loop2 μ-loop2 Inv-loop μ-loop) → Parsed (message (c .before .before .before .before .before)) (updateValues (c .read-update .result .update)) (c .read-update .result .cursor)
 update-read c =
     let p = message (c .before .before .before .before .before) in
     let o = inBlock (c .before .before .before .before .before) in
-    update-parsed (body o) (p .at) (p .inside) (p .baselines) (p .records) (p .present) (p .rest) (p .going) (body-bytes o) _ refl (c .before .before .if12 .left)
+    update-parsed (body o) (p .at) (p .inside) (p .baselines) (p .records) (present p) (p .rest) (p .going) (body-bytes o) _ refl (c .before .before .if13 .left)
     (c .read-update .result .update) (c .read-update .result .cursor) (c .read-update .ensures)
 
 -- The entity of a baseline, and of an update, is known.
 baseline-index : (c : tie.After-message Inv-loop3 μ-loop3 Inv-loop2 μ-loop2 Inv-loop μ-loop) → c .message .given .0 .0 .0 < 449
 baseline-index c =
-    let r = c .before .before .before .before .before .before .before in
+    let r = c .before .before .before .before in
     let o = inBlock (r .before .before .before .before .before .before .before) in
     let p = message (r .before .before .before .before .before .before .before) in
-    baseline-known (body o) (p .at) (p .inside) (p .baselines) (p .records) (p .present) (p .rest) (p .going) (body-bytes o) _
-    (r .before .context3 .ensures _ _ _) (r .read-message .result .message) (r .read-message .result .cursor) (r .read-message .ensures) (c .before .before .before .before .before .if15 .left) _ _ _
+    baseline-known (body o) (p .at) (p .inside) (p .baselines) (p .records) (present p) (p .rest) (p .going) (body-bytes o) _
+    (r .before .context3 .ensures _ _ _) (r .read-message .result .message) (r .read-message .result .cursor) (r .read-message .ensures) (c .before .before .if16 .left) _ _ _
     (c .message .given .1)
 
-update-index : (c : tie.Else19 Inv-loop3 μ-loop3 Inv-loop2 μ-loop2 Inv-loop μ-loop) → c .before .before .read-update .result .update .entity .0 < 449
+update-index : (c : tie.Else20 Inv-loop3 μ-loop3 Inv-loop2 μ-loop2 Inv-loop μ-loop) → c .before .before .read-update .result .update .entity .0 < 449
 update-index c =
     let r = c .before .before in
     let o = inBlock (r .before .before .before .before .before) in
     let p = message (r .before .before .before .before .before) in
-    update-known (body o) (p .at) (p .inside) (p .baselines) (p .records) (p .present) (p .rest) (p .going) (body-bytes o) _ refl (r .before .before .if12 .left)
-    (r .read-update .result .update) (r .read-update .result .cursor) (r .read-update .ensures) (c .if19 .left)
+    update-known (body o) (p .at) (p .inside) (p .baselines) (p .records) (present p) (p .rest) (p .going) (body-bytes o) _ refl (r .before .before .if13 .left)
+    (r .read-update .result .update) (r .read-update .result .cursor) (r .read-update .ensures) (c .if20 .left)
 
 -- A message that is passed.
 abbrev Passing : Type 0
@@ -544,8 +582,8 @@ passedAt c = message (c .before .before .before .before .before .before .before)
 abbrev passedKind : Passing → ℕ
 passedKind c = getD (body (inBlock (c .before .before .before .before .before .before .before))) (passedAt c .at) 0
 
-passes : (c : tie.Then13 Inv-loop3 μ-loop3 Inv-loop2 μ-loop2 Inv-loop μ-loop) → isPassed (getD (body (inBlock (c .before .before .before .before .before))) (message (c .before .before .before .before .before) .at) 0) ≡ true
-passes c = sym (c .before .is-passed .ensures) ∙ c .if13 .taken
+passes : (c : tie.Then14 Inv-loop3 μ-loop3 Inv-loop2 μ-loop2 Inv-loop μ-loop) → isPassed (getD (body (inBlock (c .before .before .before .before .before))) (message (c .before .before .before .before .before) .at) 0) ≡ true
+passes c = sym (c .before .is-passed .ensures) ∙ c .if14 .taken
 
 passed-here : (c : Passing) → Passed (body (inBlock (c .before .before .before .before .before .before .before))) (here (passedAt c .at + 1)) (numbersOf (c .before .context2 .result)) (passedKind c) (c .pass-message .result)
 passed-here c = passed-read (body (inBlock (c .before .before .before .before .before .before .before))) (here (passedAt c .at + 1)) _ (passedKind c) (c .pass-message .result) (c .pass-message .ensures)
@@ -553,10 +591,10 @@ passed-here c = passed-read (body (inBlock (c .before .before .before .before .b
 pass-parsed : (c : Passing) → Parsed (passedAt c) (number (passedKind c) ∷ passed-here c .values) (c .pass-message .result)
 pass-parsed c =
     let p = passedAt c in
-    passed-parsed (body (inBlock (c .before .before .before .before .before .before .before))) (p .at) (p .inside) (p .baselines) (p .records) (p .present) (p .rest) (p .going) (passedKind c) (passes (c .before .before)) refl _
+    passed-parsed (body (inBlock (c .before .before .before .before .before .before .before))) (p .at) (p .inside) (p .baselines) (p .records) (present p) (p .rest) (p .going) (passedKind c) (passes (c .before .before)) refl _
     (c .before .context2 .ensures _ _ _) (passed-here c .values) (c .pass-message .result) (passed-here c .read)
 
-pass-step : (c : tie.Else14 Inv-loop3 μ-loop3 Inv-loop2 μ-loop2 Inv-loop μ-loop)
+pass-step : (c : tie.Else15 Inv-loop3 μ-loop3 Inv-loop2 μ-loop2 Inv-loop μ-loop)
     → let p = passedAt (c .before) in
     Step p (scene p) (c .before .pass-message .result .at) (p .filled) (p .size) (p .kept)
 pass-step c =
@@ -564,8 +602,8 @@ pass-step c =
     let p = passedAt r in
     let o = inBlock (r .before .before .before .before .before .before .before) in
     kept-step p (scene p) (r .pass-message .result .at) _
-    (passed-moved (body o) (p .at) (p .inside) (p .baselines) (p .records) (p .present) (p .rest) (p .going) (body-bytes o) (passedKind r) (passes (r .before .before))
-    (passed-here r .values) (r .pass-message .result) (pass-parsed r) (c .if14 .left)) (λ on. refl)
+    (passed-moved (body o) (p .at) (p .inside) (p .baselines) (p .records) (present p) (p .rest) (p .going) (body-bytes o) (passedKind r) (passes (r .before .before))
+    (passed-here r .values) (r .pass-message .result) (pass-parsed r) (c .if15 .left)) (λ on. refl)
 
 -- An update that is to be put anew was loaded again.
 abbrev Again : Type 0
@@ -584,19 +622,19 @@ abbrev fieldsAgain : Again → RecordAt
 fieldsAgain c = c .before .before .update-fields2 .result
 
 -- It is to be written, and all bytes that it could have are there.
-to-load : (c : tie.Then16 Inv-loop3 μ-loop3 Inv-loop2 μ-loop2 Inv-loop μ-loop)
+to-load : (c : tie.Then17 Inv-loop3 μ-loop3 Inv-loop2 μ-loop2 Inv-loop μ-loop)
     → let m = c .before .before .before .before in
     (begun (blockOf (inBlock m)) .args .on ≡ true) × (message m .at + 18 ≤ length (input (blockOf (inBlock m))))
 to-load c =
     let m = c .before .before .before .before in
     let o = inBlock m in
-    let t = and-true _ _ (c .if16 .taken) in
+    let t = and-true _ _ (c .if17 .taken) in
     (t .0, before-stop (length (input (blockOf o))) (end o) _ (message m .at) (m .before .before .before .before .before .before .quick-until .ensures) (ltb-true _ _ (t .1)) .1)
 
 -- Its entity and its mask were tested.
-tested : (c : tie.Then17 Inv-loop3 μ-loop3 Inv-loop2 μ-loop2 Inv-loop μ-loop) → (c .before .update-head2 .result .entity < 449) × (c .before .update-head2 .result .mask < 32768)
+tested : (c : tie.Then18 Inv-loop3 μ-loop3 Inv-loop2 μ-loop2 Inv-loop μ-loop) → (c .before .update-head2 .result .entity < 449) × (c .before .update-head2 .result .mask < 32768)
 tested c =
-    let t = and-true _ _ (c .if17 .taken) in
+    let t = and-true _ _ (c .if18 .taken) in
     (ltb-true _ _ (t .0), ltb-true _ _ (t .1))
 
 again : (c : Again) → Loaded (placeOf c) (kindOf c) (headAgain c) (fieldsAgain c)
@@ -604,15 +642,18 @@ again c =
     let f = c .before .before .update-fields2 in
     record {
       there = refl;
-      large = c .before .before .before .before .before .before .before .if12 .left;
+      large = c .before .before .before .before .before .before .before .if13 .left;
       head = c .before .before .before .before .before .update-head2 .ensures .0;
       low = tested (c .before .before .before .before) .1;
       known = tested (c .before .before .before .before) .0;
       fields = f .ensures .0;
       next = f .ensures .1 .0;
       flag = f .ensures .1 .1;
-      ends = c .before .if18 .taken;
+      ends = c .before .if19 .taken;
     }
+
+moves-again : (c : Again) → placeOf c .at < fieldsAgain c .next
+moves-again c = omega (arith, less (placeOf c) _ (fieldsAgain c .next) _ (at-quick (placeOf c) (kindOf c) (headAgain c) (fieldsAgain c) (again c)))
 
 abbrev Anew : Type 0
 Anew = tie.After-body6 Inv-loop3 μ-loop3 Inv-loop2 μ-loop2 Inv-loop μ-loop
@@ -620,12 +661,12 @@ Anew = tie.After-body6 Inv-loop3 μ-loop3 Inv-loop2 μ-loop2 Inv-loop μ-loop
 again-step : (c : Anew)
     → let r = c .before .before .before in
     let w = c .before .put-update-behind in
-    Step (placeOf r) (updated (placeOf r) (kindOf r) (headAgain r) (fieldsAgain r) (again r)) (fieldsAgain r .next) (w .last .1 .0) (w .result .size) (w .result .kept)
+    Step (placeOf r) (updated (placeOf r) (kindOf r) (headAgain r) (fieldsAgain r) (again r) (placeOf r .at)) (fieldsAgain r .next) (w .last .1 .0) (w .result .size) (w .result .kept)
 again-step c =
     let r = c .before .before .before in
     let p = placeOf r in
     let w = c .before .put-update-behind in
-    behind-step p _ (fieldsAgain r .next) _ (loaded-moved p (kindOf r) (headAgain r) (fieldsAgain r) (again r))
+    behind-step p _ (fieldsAgain r .next) _ (loaded-moved p (kindOf r) (headAgain r) (fieldsAgain r) (again r) (p .at) (omega arith) (omega (arith, moves-again r)))
     true (λ e. to-load (r .before .before .before .before .before .before) .0) (λ on e. clash (cc)) _ _ _ (w .ensures (contextOf (scene p)))
 
 -- ---- where the arms meet
@@ -634,24 +675,50 @@ abbrev AtNext : Type 0
 AtNext = tie.At-match-came Inv-loop3 μ-loop3 Inv-loop2 μ-loop2 Inv-loop μ-loop
 
 abbrev next : AtNext → Scene
-next c = held (c .match .baselines) (c .match .records) (c .match .present) (c .match .rest)
+next c = held (c .match .baselines) (c .match .records) (marked (c .match .since) (c .match .marks)) (c .match .rest)
 
-abbrev Arrived : AtNext → Scene → ℕ → List ℕ → ℕ → ℕ → Type 0
-Arrived c = Step (message (c .before .before))
+abbrev Arrived : (c : AtNext) → Scene → ℕ → List ℕ → ℕ → ℕ → List ℕ → ℕ → Type 0
+Arrived c t to filled size kept marks since = Step (message (c .before .before)) t to filled size kept × Before marks since to (length (body (inBlock (c .before .before))))
 
-arrived : (c : AtNext) (b : List Baseline) (e : List Record) (p : List Bool) (x : Rest) (filled : List ℕ) (to size kept : ℕ) → c .match .baselines ≡ b → c .match .records ≡ e
-    → c .match .present ≡ p → c .match .rest ≡ x → c .match .body ≡ filled → c .match .at ≡ to → c .match .size ≡ size → c .match .kept ≡ kept
-    → Arrived c (held b e p x) to filled size kept → Arrived c (next c) (c .match .at) (c .match .body) (c .match .size) (c .match .kept)
-arrived c b e p x filled to size kept eb ee ep ex ef et es ek m =
-    let q : _≡_ {A = Scene × ℕ × List ℕ × ℕ × ℕ} (next c, c .match .at, c .match .body, c .match .size, c .match .kept) (held b e p x, to, filled, size, kept) = λ i. (held (eb i) (ee i) (ep i) (ex i), et i, ef i, es i, ek i) in
-    subst (λ (y : Scene × ℕ × List ℕ × ℕ × ℕ). Arrived c (y .0) (y .1) (y .2) (y .3) (y .4)) (sym q) m
+abbrev Here : AtNext → Type 0
+Here c = Arrived c (next c) (c .match .at) (c .match .body) (c .match .size) (c .match .kept) (c .match .marks) (c .match .since)
+
+arrived : (c : AtNext) (b : List Baseline) (e : List Record) (m : List ℕ) (n : ℕ) (x : Rest) (filled : List ℕ) (to size kept : ℕ) → c .match .baselines ≡ b → c .match .records ≡ e
+    → c .match .marks ≡ m → c .match .since ≡ n → c .match .rest ≡ x → c .match .body ≡ filled → c .match .at ≡ to → c .match .size ≡ size → c .match .kept ≡ kept
+    → Step (message (c .before .before)) (held b e (marked n m) x) to filled size kept → Before m n to (length (body (inBlock (c .before .before)))) → Here c
+arrived c b e m n x filled to size kept eb ee em en ex ef et es ek st w =
+    let q : _≡_ {A = Scene × ℕ × List ℕ × ℕ × ℕ × List ℕ × ℕ} (next c, c .match .at, c .match .body, c .match .size, c .match .kept, c .match .marks, c .match .since) (held b e (marked n m) x, to, filled, size, kept, m, n) = λ i. (held (eb i) (ee i) (marked (en i) (em i)) (ex i), et i, ef i, es i, ek i, em i, en i) in
+    subst (λ (y : Scene × ℕ × List ℕ × ℕ × ℕ × List ℕ × ℕ). Arrived c (y .0) (y .1) (y .2) (y .3) (y .4) (y .5) (y .6)) (sym q) (st, w)
+
+-- Where no mark changes.
+stays : (c : AtNext) (b : List Baseline) (e : List Record) (x : Rest) (filled : List ℕ) (to size kept : ℕ)
+    → let k = message (c .before .before) in
+    c .match .baselines ≡ b → c .match .records ≡ e → c .match .marks ≡ k .marks → c .match .since ≡ k .since → c .match .rest ≡ x → c .match .body ≡ filled
+    → c .match .at ≡ to → c .match .size ≡ size → c .match .kept ≡ kept → Step k (held b e (present k) x) to filled size kept → Here c
+stays c b e x filled to size kept eb ee em en ex ef et es ek st =
+    let k = message (c .before .before) in
+    arrived c b e (k .marks) (k .since) x filled to size kept eb ee em en ex ef et es ek st (later k _ to filled size kept st)
+
+-- Where all marks are taken away.
+cleared-marks : (c : AtNext) (b : List Baseline) (e : List Record) (x : Rest) (to : ℕ)
+    → let k = message (c .before .before) in
+    c .match .baselines ≡ b → c .match .records ≡ e → c .match .marks ≡ k .marks → c .match .since ≡ k .at → c .match .rest ≡ x → c .match .body ≡ k .filled
+    → c .match .at ≡ to → c .match .size ≡ k .size → c .match .kept ≡ k .kept
+    → Moved (body (inBlock (c .before .before))) (scene k) (k .at) (held b e (replicate 449 false) x) to (take (to - k .at) (drop (k .at) (body (inBlock (c .before .before))))) → Here c
+cleared-marks c b e x to eb ee em en ex ef et es ek mv =
+    let k = message (c .before .before) in
+    let s = body (inBlock (c .before .before)) in
+    let moved = subst (λ (q : List Bool). Moved s (scene k) (k .at) (held b e q x) to (take (to - k .at) (drop (k .at) s))) (sym (marked-none (k .marks) (k .at) (k .reached .6 .marks-within))) mv in
+    let st = kept-step k _ to _ moved (λ on. refl) in
+    arrived c b e (k .marks) (k .at) x (k .filled) to (k .size) (k .kept) eb ee em en ex ef et es ek st
+    (before-timed (k .marks) (k .since) (k .at) (length s) (k .reached .6) to (omega (arith, less k _ to _ moved)) (omega (arith, k .inside)))
 
 -- The messages but serverinfo and baseline, by their places in the list of messages.
 abbrev neither : List ℕ
 neither =
     0 ∷ 1 ∷ 2 ∷ 3 ∷ 4 ∷ 5 ∷ 6 ∷ 7 ∷ 8 ∷ 9 ∷ 11 ∷ 12 ∷ 13 ∷ 14 ∷ 15 ∷ 16 ∷ 17 ∷ 18 ∷ 19 ∷ 21 ∷ 22 ∷ 23 ∷ 24 ∷ 25 ∷ 26 ∷ 27 ∷ 28 ∷ 29 ∷ 30 ∷ 31 ∷ 32 ∷ 33 ∷ []
 
-came : (c : AtNext) → Arrived c (next c) (c .match .at) (c .match .body) (c .match .size) (c .match .kept)
+came : (c : AtNext) → Here c
 came c =
     let s = body (inBlock (c .before .before)) in
     let k = message (c .before .before) in
@@ -660,36 +727,51 @@ came c =
     let h = body-bytes (inBlock (c .before .before)) in
     let x = contextOf (scene k) in
     ⊎-elim
-    (λ w. arrived c (k .baselines) (k .records) (replicate 449 false) (timed (k .rest) (w .2 .result .value)) (k .filled) (w .2 .result .cursor .at) (k .size) (k .kept) (w .5) (w .6) (w .7) (w .8) (w .9) (w .10) (w .11) (w .12)
-    (kept-step k _ (w .2 .result .cursor .at) _
-    (time-moved s (k .at) l (k .baselines) (k .records) (k .present) (k .rest) g h (w .2 .result .value) (w .2 .result .cursor)
-    (time-parsed (record { before = record { before = record { before = c .before; match = w .0 }; context = w .1 }; time-at = w .2 })) (w .4 .left)) (λ on. refl)))
+    (λ w.
+    let to = w .1 .result .cursor .at in
+    stays c (k .baselines) (k .records) (k .rest) _ to (w .6 .result .size) (w .6 .result .kept) (w .8) (w .9) (w .10) (w .11) (w .12) (w .13) (w .14) (w .15) (w .16)
+    (behind-step k _ to _
+    (sound-moved s (k .at) l (k .baselines) (k .records) (present k) (k .rest) g (w .1 .result .heard) (w .1 .result .cursor)
+    (sound-parsed (record { before = record { before = c .before; match = w .0 }; sound-at = w .1 })) (w .3 .left))
+    _ (λ e. e) (λ on e. let z : true ≡ false = sym on ∙ e in clash (cc)) _ _ _ (w .6 .ensures x)))
+    (⊎-elim
+    (λ w.
+    cleared-marks c (k .baselines) (k .records) (timed (k .rest) (w .2 .result .value)) (w .2 .result .cursor .at) (w .5) (w .6) (w .7) (w .8) (w .9) (w .10) (w .11) (w .12) (w .13)
+    (time-moved s (k .at) l (k .baselines) (k .records) (present k) (k .rest) g h (w .2 .result .value) (w .2 .result .cursor)
+    (time-parsed (record { before = record { before = record { before = c .before; match = w .0 }; context = w .1 }; time-at = w .2 })) (w .4 .left)))
     (⊎-elim
     (λ w.
     let r : tie.After-client-at Inv-loop3 μ-loop3 Inv-loop2 μ-loop2 Inv-loop μ-loop = record { before = record { before = c .before; match = w .0 }; client-at = w .1 } in
-    arrived c (k .baselines) (k .records) (k .present) (w .9 .result) _ (w .1 .result .cursor .at) (w .7 .result .size) (w .7 .result .kept) (w .10) (w .11) (w .12) (w .13) (w .14) (w .15) (w .16) (w .17)
+    stays c (k .baselines) (k .records) (w .9 .result) _ (w .1 .result .cursor .at) (w .7 .result .size) (w .7 .result .kept) (w .10) (w .11) (w .12) (w .13) (w .14) (w .15) (w .16) (w .17) (w .18)
     (behind-step k _ (w .1 .result .cursor .at) _
-    (client-moved s (k .at) l (k .baselines) (k .records) (k .present) (k .rest) g _ (w .1 .result .client) (w .9 .result) (w .1 .result .cursor) (client-parsed r) (w .3 .left) (client-here r .filled (w .3 .left)) (w .9 .ensures))
-    _ (λ e. and-true _ _ e .0) (λ on e. kept-client s (k .at) l (k .baselines) (k .records) (k .present) (k .rest) g h (w .1 .result .client) (w .1 .result .cursor) (client-again r (and-false _ _ on e)) (w .3 .left)) _ _ _ (w .7 .ensures x)))
+    (client-moved s (k .at) l (k .baselines) (k .records) (present k) (k .rest) g _ (w .1 .result .client) (w .9 .result) (w .1 .result .cursor) (client-parsed r) (w .3 .left) (client-here r .filled (w .3 .left)) (w .9 .ensures))
+    _ (λ e. and-true _ _ e .0) (λ on e. kept-client s (k .at) l (k .baselines) (k .records) (present k) (k .rest) g h (w .1 .result .client) (w .1 .result .cursor) (client-again r (and-false _ _ on e)) (w .3 .left)) _ _ _ (w .7 .ensures x)))
     (⊎-elim
-    (λ w. arrived c (set (k .baselines) (w .12 .given .0 .0 .0) (record { look = w .12 .given .0 .1 .0; pose = w .12 .given .0 .1 .1 .0 })) (k .records) (k .present) (k .rest) _ (w .5 .result .cursor .at) (w .9 .result .size) (w .9 .result .kept) (w .15) (w .16) (w .17) (w .18) (w .19) (w .20) (w .21) (w .22)
-    (behind-step k _ (w .5 .result .cursor .at) _ (baseline-moved s (k .at) l (k .baselines) (k .records) (k .present) (k .rest) g h _ (w .4 .ensures _ _ _) (w .5 .result .message) (w .5 .result .cursor)
-    (w .5 .ensures) (w .7 .left) (λ z. w .0 .rest .1 (sym z)) (w .1 .taken) _ _ _ (w .12 .given .1))
-    _ (λ e. and-true _ _ e .0) (λ on e. kept-other x s (k .at) (w .5 .result .cursor .at) (w .5 .result .message) (and-false _ _ on e)) _ _ _ (w .9 .ensures x)))
+    (λ w.
+    stays c (set (k .baselines) (w .9 .given .0 .0 .0) (record { look = w .9 .given .0 .1 .0; pose = w .9 .given .0 .1 .1 .0 })) (k .records) (k .rest) (k .filled) (w .5 .result .cursor .at) (k .size) (k .kept) (w .12) (w .13) (w .14) (w .15) (w .16) (w .17) (w .18) (w .19) (w .20)
+    (kept-step k _ (w .5 .result .cursor .at) _
+    (baseline-moved s (k .at) l (k .baselines) (k .records) (present k) (k .rest) g h _ (w .4 .ensures _ _ _) (w .5 .result .message) (w .5 .result .cursor)
+    (w .5 .ensures) (w .7 .left) (λ z. w .0 .rest .0 .0 .1 (sym z)) (λ z. w .0 .rest .1 (sym z)) (w .1 .taken) _ _ _ (w .9 .given .1)) (λ on. refl)))
     (⊎-elim
-    (λ w. arrived c (w .14 .result .baselines) (w .14 .result .records) (w .14 .result .present) (w .14 .result .rest) _ (w .5 .result .cursor .at) (w .9 .result .size) (w .9 .result .kept) (w .19) (w .20) (w .21) (w .22) (w .23) (w .24) (w .25) (w .26)
-    (behind-step k _ (w .5 .result .cursor .at) _ (serverinfo-moved s (k .at) l (k .baselines) (k .records) (k .present) (k .rest) g h _ (w .4 .ensures _ _ _) (w .5 .result .message) (w .5 .result .cursor)
-    (w .5 .ensures) (w .7 .left) (λ z. w .0 .rest .1 (sym z)) (w .1 .taken) _ _ (w .12 .given .1) (w .14 .ensures))
-    _ (λ e. and-true _ _ e .0) (λ on e. kept-other x s (k .at) (w .5 .result .cursor .at) (w .5 .result .message) (and-false _ _ on e)) _ _ _ (w .9 .ensures x)))
+    (λ w.
+    let t = w .11 .result in
+    cleared-marks c (t .baselines) (t .records) (t .rest) (w .5 .result .cursor .at) (w .15) (w .16) (w .17) (w .18) (w .19) (w .20) (w .21) (w .22) (w .23)
+    (serverinfo-moved s (k .at) l (k .baselines) (k .records) (present k) (k .rest) g h _ (w .4 .ensures _ _ _) (w .5 .result .message) (w .5 .result .cursor)
+    (w .5 .ensures) (w .7 .left) (λ z. w .0 .rest .0 .0 .1 (sym z)) (λ z. w .0 .rest .1 (sym z)) (w .1 .taken) _ _ (w .9 .given .1) (cleared-present (t .baselines) (t .records) (t .present) (t .rest) _ (w .11 .ensures))))
     (⊎-elim
-    (λ w. arrived c (k .baselines) (k .records) (k .present) (w .12 .result) _ (w .5 .result .cursor .at) (w .9 .result .size) (w .9 .result .kept) (w .13) (w .14) (w .15) (w .16) (w .17) (w .18) (w .19) (w .20)
-    (behind-step k _ (w .5 .result .cursor .at) _ (rest-moved s (k .at) l (k .baselines) (k .records) (k .present) (k .rest) g h _ (w .4 .ensures _ _ _) (w .5 .result .message) (w .5 .result .cursor)
-    (w .5 .ensures) (w .7 .left) (λ z. w .0 .rest .1 (sym z)) (w .1 .taken) neither (w .11 .keys3) tt tt (λ z. w .0 .rest .0 .1 (sym z)) (w .12 .result) (w .12 .ensures))
-    _ (λ e. and-true _ _ e .0) (λ on e. kept-other x s (k .at) (w .5 .result .cursor .at) (w .5 .result .message) (and-false _ _ on e)) _ _ _ (w .9 .ensures x)))
-    (λ w. arrived c (k .baselines) (set (k .records) (w .3 .result .update .entity .0) (w .10 .result)) (set (k .present) (w .3 .result .update .entity .0) true) (k .rest) _ (w .3 .result .cursor .at) (w .12 .result .size) (w .12 .result .kept) (w .14) (w .15) (w .16) (w .17) (w .18) (w .19) (w .20) (w .21)
-    (behind-step k _ (w .3 .result .cursor .at) _
-    (update-moved s (k .at) l (k .baselines) (k .records) (k .present) (k .rest) g h _ refl (w .1 .left) (w .3 .result .update) (w .3 .result .cursor) (w .3 .ensures) (w .5 .left) (w .10 .result) (w .10 .ensures))
-    _ (λ e. e) (λ on e. let z : true ≡ false = sym on ∙ e in clash (cc)) _ _ _ (w .12 .ensures x)))))))
+    (λ w.
+    stays c (k .baselines) (k .records) (w .9 .result) (k .filled) (w .5 .result .cursor .at) (k .size) (k .kept) (w .10) (w .11) (w .12) (w .13) (w .14) (w .15) (w .16) (w .17) (w .18)
+    (kept-step k _ (w .5 .result .cursor .at) _
+    (rest-moved s (k .at) l (k .baselines) (k .records) (present k) (k .rest) g h _ (w .4 .ensures _ _ _) (w .5 .result .message) (w .5 .result .cursor)
+    (w .5 .ensures) (w .7 .left) (λ z. w .0 .rest .0 .0 .1 (sym z)) (λ z. w .0 .rest .1 (sym z)) (w .1 .taken) neither (w .8 .keys3) tt tt (λ z. w .0 .rest .0 .1 (sym z)) (w .9 .result) (w .9 .ensures)) (λ on. refl)))
+    (λ w.
+    let i = w .3 .result .update .entity .0 in
+    let to = w .3 .result .cursor .at in
+    let moved = update-moved s (k .at) l (k .baselines) (k .records) (present k) (k .rest) g h _ refl (w .1 .left) (w .3 .result .update) (w .3 .result .cursor) (w .3 .ensures) (w .5 .left) (w .10 .result) (w .10 .ensures) in
+    let here : k .at ≤ to = omega (arith, less k _ to _ moved) in
+    arrived c (k .baselines) (set (k .records) i (w .10 .result)) (set (k .marks) i (k .at)) (k .since) (k .rest) _ to (w .12 .result .size) (w .12 .result .kept) (w .14) (w .15) (w .16) (w .17) (w .18) (w .19) (w .20) (w .21) (w .22)
+    (behind-step k _ to _ (marked-moved k (set (k .records) i (w .10 .result)) i to _ moved (k .at) (omega arith) here (omega (arith, l))) _ (λ e. e) (λ on e. let z : true ≡ false = sym on ∙ e in clash (cc)) _ _ _ (w .12 .ensures x))
+    (marked-later k (set (k .records) i (w .10 .result)) i to _ moved (k .at) (omega arith) here (omega (arith, l)))))))))
     (c .match .came)
 
 -- ---- where a block is at its end
@@ -730,7 +812,7 @@ abbrev closing : AtEnd → Opened
 closing c = left (copying c) .before .before
 
 abbrev after : AtEnd → Scene
-after c = let k = left (copying c) .loop2 in held (k .baselines) (k .records) (k .present) (k .rest)
+after c = let k = left (copying c) .loop2 in held (k .baselines) (k .records) (marked (k .since) (k .marks)) (k .rest)
 
 abbrev formed : AtEnd → List ℕ
 formed c = blockBytes (begun (blockOf (closing c)) .args .on) (angles (closing c)) (take (sizeOf (copying c)) (filledOf (copying c)))
@@ -760,7 +842,7 @@ ended c =
     ∙ ap (λ (x : List ℕ). closed (sceneOf (a .given)) (input (blockOf o)) (a .on) (stores (blockOf o)) (a .room) (a .base) (l .blocks) (a .most - l .blocks - 1) (l .start) (end o) (angles o) (l .written) (l .out) (k .messages) (after c) (blockBytes (a .on) (angles o) x)) (sym (copying c .put-copy .ensures .0))
 
 -- The room is short for it.
-short : (c : tie.Then20 Inv-loop3 μ-loop3 Inv-loop2 μ-loop2 Inv-loop μ-loop) (r : WrittenAt) → Refuses (closing (c .before)) 12 (c .before .block-size .result) r → Answered (closing (c .before)) r
+short : (c : tie.Then21 Inv-loop3 μ-loop3 Inv-loop2 μ-loop2 Inv-loop μ-loop) (r : WrittenAt) → Refuses (closing (c .before)) 12 (c .before .block-size .result) r → Answered (closing (c .before)) r
 short c =
     let e = c .before in
     let o = closing e in
@@ -769,10 +851,10 @@ short c =
     refuse o 12 (e .block-size .result)
     (sym (ended e
     ∙ closed-short (sceneOf (a .given)) (input (blockOf o)) (a .on) (stores (blockOf o)) (a .room) (a .base) (l .blocks) _ (l .start) (end o) (angles o) (l .written) (l .out)
-    (left (copying e) .loop2 .messages) (after e) (formed e) (e .block-size .result) (formed-size e) (c .if20 .taken)))
+    (left (copying e) .loop2 .messages) (after e) (formed e) (e .block-size .result) (formed-size e) (c .if21 .taken)))
 
 -- There is room for it.
-goes-on : (c : tie.Else20 Inv-loop3 μ-loop3 Inv-loop2 μ-loop2 Inv-loop μ-loop)
+goes-on : (c : tie.Else21 Inv-loop3 μ-loop3 Inv-loop2 μ-loop2 Inv-loop μ-loop)
     → let e = c .before in
     let o = closing e in
     let a = begun (blockOf o) .args in
@@ -788,9 +870,9 @@ goes-on c =
     let l = blockOf o .before .loop in
     ended e
     ∙ closed-fits (sceneOf (a .given)) (input (blockOf o)) (a .on) (stores (blockOf o)) (a .room) (a .base) (l .blocks) _ (l .start) (end o) (angles o) (l .written) (l .out)
-    (left (copying e) .loop2 .messages) (after e) (formed e) (e .block-size .result) (formed-size e) (c .if20 .left)
+    (left (copying e) .loop2 .messages) (after e) (formed e) (e .block-size .result) (formed-size e) (c .if21 .left)
 
-room-there : (c : tie.Else20 Inv-loop3 μ-loop3 Inv-loop2 μ-loop2 Inv-loop μ-loop)
+room-there : (c : tie.Else21 Inv-loop3 μ-loop3 Inv-loop2 μ-loop2 Inv-loop μ-loop)
     → let a = begun (blockOf (closing (c .before))) .args in
     let l = blockOf (closing (c .before)) .before .loop in
     (a .on && stored (a .out .now) (a .base) (a .room)) ≡ true → a .base + l .written + 16 + sizeOf (copying (c .before)) ≤ length (l .out)
@@ -800,7 +882,7 @@ room-there c e =
     let l = blockOf (closing (c .before)) .before .loop in
     let b = and-true (a .on) (stored (a .out .now) (a .base) (a .room)) e in
     let n : c .before .block-size .result ≡ 16 + sizeOf (copying (c .before)) = c .before .block-size .ensures ∙ ap (λ (x : Bool). cond x (16 + sizeOf (copying (c .before))) 0) (b .0) in
-    omega (arith, n, c .if20 .left, leb-true (a .room) (length (a .out .now) - a .base) (b .1), l .inv .5, l .inv .6, s .pre .2)
+    omega (arith, n, c .if21 .left, leb-true (a .room) (length (a .out .now) - a .base) (b .1), l .inv .5, l .inv .6, s .pre .2)
 
 -- What the room holds then.
 abbrev AtStored : Type 0
@@ -837,22 +919,31 @@ kept-length c x e =
 -- ---- what is asked on the way, in the order of the code
 
 sub-stores : tie.Need-sub-stores Inv-loop3 μ-loop3 Inv-loop2 μ-loop2 Inv-loop μ-loop
-sub-stores c = c .before .before .before .before .before .before .pre .2
+sub-stores c = c .before .before .before .before .before .before .before .pre .2
+
+marks-of-requires : tie.Need-marks-of-requires Inv-loop3 μ-loop3 Inv-loop2 μ-loop2 Inv-loop μ-loop
+marks-of-requires c κs = search needs
 
 loop-holds : tie.Need-loop-holds Inv-loop3 μ-loop3 Inv-loop2 μ-loop2 Inv-loop μ-loop
 loop-holds c =
-    let a = c .before .before .before .before .before .before .args in
+    let a = c .before .before .before .before .before .before .before .args in
+    let g = c .before .marks-of in
+    let given = a .given in
     let n : a .most ≡ a .most - 0 = omega arith in
-    let r : a .room ≡ a .room - 0 = omega arith in (
+    let r : a .room ≡ a .room - 0 = omega arith in
+    let same : held (given .baselines) (given .records) (given .present) (given .rest) ≡ held (given .baselines) (given .records) (marked 0 (g .result)) (given .rest) =
+    ap (λ (q : List Bool). held (given .baselines) (given .records) q (given .rest)) (sym (ap (marked 0) (g .ensures .0) ∙ marked-bits (given .present))) in (
       refl,
-      c .before .before .before .before .before .before .pre .0,
+      c .before .before .before .before .before .before .before .pre .0,
       omega arith,
       omega arith,
-      c .before .before .before .before .before .before .pre .1,
+      subst (λ (t : Scene). inRange t ≡ true) same (c .before .before .before .before .before .before .before .pre .1),
       omega arith,
       refl,
       refl,
-      ap₂ (λ (k r : ℕ). wroteOf (sceneOf (a .given)) (length (a .d .now)) (stored (a .out .now) (a .base) (a .room)) (a .base) 0 0 0 (a .out .now) (runOf (a .on) k r (sceneOf (a .given)) (drop (a .from) (a .d .now)))) n r,
+      within-more (g .result) 1 (a .from + 1) (within-bits (given .present) (g .result) (g .ensures .0) (g .ensures .1)) (omega arith),
+      omega arith,
+      (λ i. wroteOf (sceneOf given) (length (a .d .now)) (stored (a .out .now) (a .base) (a .room)) (a .base) 0 0 0 (a .out .now) (runOf (a .on) (n i) (r i) (same i) (drop (a .from) (a .d .now)))),
     )
 
 read-head-requires : tie.Need-read-head-requires Inv-loop3 μ-loop3 Inv-loop2 μ-loop2 Inv-loop μ-loop
@@ -880,6 +971,12 @@ loop2-holds c =
       l .inv .4,
       ap (λ (x : List ℕ). from-here o (l .messages) (before (blockOf o)) x (readAll messages (before (blockOf o)) (drop (l .start + 16) (body o)))) (sym (far-begins (body o) (begun (blockOf o) .args .on) (l .body) (l .start + 16))),
       omega arith,
+      record {
+        marks-within = within-more (l .marks) (l .start + 1) (l .start + 16) (l .inv .8) (omega arith);
+        time-before = omega (arith, l .inv .9);
+        marks-inside = within-more (l .marks) (l .start + 1) (length (body o)) (l .inv .8) (omega (arith, body-long o));
+        time-inside = omega (arith, l .inv .9, body-long o);
+      },
     )
 
 refused-in-requires : tie.Need-refused-in-requires Inv-loop3 μ-loop3 Inv-loop2 μ-loop2 Inv-loop μ-loop
@@ -893,13 +990,13 @@ returns c =
     let m = c .before .before in
     let o = m .before .before .before in
     let k = m .before .loop2 in
-    refuse-message o (k .messages) (held (k .baselines) (k .records) (k .present) (k .rest)) (k .body) (k .at) (k .size) (k .kept) (k .inv) (m .loop2-test .taken) 11
-    (ended-refused (body o) (k .at) (m .loop2-test .taken) (k .baselines) (k .records) (k .present) (k .rest) (c .before .if3 .taken)) (c .refused-in .result) (c .refused-in .ensures)
+    refuse-message o (k .messages) (held (k .baselines) (k .records) (marked (k .since) (k .marks)) (k .rest)) (k .body) (k .at) (k .size) (k .kept) (k .marks) (k .since) (k .inv) (m .loop2-test .taken) 11
+    (ended-refused (body o) (k .at) (m .loop2-test .taken) (k .baselines) (k .records) (marked (k .since) (k .marks)) (k .rest) (c .before .if3 .taken)) (c .refused-in .result) (c .refused-in .ensures)
 
 loop3-holds : tie.Need-loop3-holds Inv-loop3 μ-loop3 Inv-loop2 μ-loop2 Inv-loop μ-loop
 loop3-holds c =
     let i = c .before .before .loop2 .inv in
-    ((i .0, i .1, i .2, i .3, refl, i .5), omega arith)
+    ((i .0, i .1, i .2, i .3, refl, i .5, i .6), omega arith)
 
 shared-slice-read-k : tie.Need-shared-slice-read-k Inv-loop3 μ-loop3 Inv-loop2 μ-loop2 Inv-loop μ-loop
 shared-slice-read-k c = omega (arith, loaded (c .before))
@@ -925,8 +1022,11 @@ mul-records c = omega (arith, c .before .before .before .before .before .before 
 array-set-from-records : tie.Need-array-set-from-records Inv-loop3 μ-loop3 Inv-loop2 μ-loop2 Inv-loop μ-loop
 array-set-from-records c = c .before .before .before .before .before .before .before .before .if5 .left
 
-array-write-present : tie.Need-array-write-present Inv-loop3 μ-loop3 Inv-loop2 μ-loop2 Inv-loop μ-loop
-array-write-present c = c .before .before .before .before .before .before .before .before .if5 .left
+mul-marks : tie.Need-mul-marks Inv-loop3 μ-loop3 Inv-loop2 μ-loop2 Inv-loop μ-loop
+mul-marks c = omega (arith, c .before .before .before .before .before .before .before .before .if5 .left)
+
+array-write-marks : tie.Need-array-write-marks Inv-loop3 μ-loop3 Inv-loop2 μ-loop2 Inv-loop μ-loop
+array-write-marks c = c .before .before .before .before .before .before .before .before .if5 .left
 
 add-messages : tie.Need-add-messages Inv-loop3 μ-loop3 Inv-loop2 μ-loop2 Inv-loop μ-loop
 add-messages c = counts (update (updateOf (c .before .before .before)))
@@ -935,14 +1035,15 @@ loop3-less : tie.Need-loop3-less Inv-loop3 μ-loop3 Inv-loop2 μ-loop2 Inv-loop 
 loop3-less c =
     let r = c .before .before .before in
     let o = ran (updateOf r) in
-    moved-less (body o) (body-bytes o) (scene (update (updateOf r))) (updateOf r .before .loop3 .at) _ (fieldsOf r .next) _ (loaded-moved (update (updateOf r)) (kind (updateOf r)) (headOf r) (fieldsOf r) (found r))
+    moved-less (body o) (body-bytes o) (scene (update (updateOf r))) (updateOf r .before .loop3 .at) _ (fieldsOf r .next) _ (at-quick (update (updateOf r)) (kind (updateOf r)) (headOf r) (fieldsOf r) (found r))
 
 loop3-again : tie.Need-loop3-again Inv-loop3 μ-loop3 Inv-loop2 μ-loop2 Inv-loop μ-loop
 loop3-again c =
     let r = c .before .before .before in
     let i = updateOf r .before .loop3 .inv in
-    let q = step-on (update (updateOf r)) _ (fieldsOf r .next) _ _ _ (step-once c) in
-    ((q .0, q .1, q .2, q .3, i .0 .4 ∙ q .4, q .5), omega (arith, i .1, moves r))
+    let p = update (updateOf r) in
+    let q = step-on p _ (fieldsOf r .next) _ _ _ (step-once c) _ _ (loaded-later p (kind (updateOf r)) (headOf r) (fieldsOf r) (found r) (fieldsOf r .next) (omega (arith, moves r)) (omega arith)) in
+    ((q .0, q .1, q .2, q .3, i .0 .4 ∙ q .4, q .5, q .6), omega (arith, i .1, moves r))
 
 loop2-less : tie.Need-loop2-less Inv-loop3 μ-loop3 Inv-loop2 μ-loop2 Inv-loop μ-loop
 loop2-less c = omega (arith, c .if9 .taken, c .before .before .before .before .loop2-test .taken)
@@ -953,8 +1054,27 @@ loop2-again c = reached (c .before .before)
 shared-slice-read-k-2 : tie.Need-shared-slice-read-k-2 Inv-loop3 μ-loop3 Inv-loop2 μ-loop2 Inv-loop μ-loop
 shared-slice-read-k-2 c = search needs
 
-add-t90 : tie.Need-add-t90 Inv-loop3 μ-loop3 Inv-loop2 μ-loop2 Inv-loop μ-loop
-add-t90 c = place-fits (message (c .before))
+add-t99 : tie.Need-add-t99 Inv-loop3 μ-loop3 Inv-loop2 μ-loop2 Inv-loop μ-loop
+add-t99 c = place-fits (message (c .before))
+
+sound-at-requires : tie.Need-sound-at-requires Inv-loop3 μ-loop3 Inv-loop2 μ-loop2 Inv-loop μ-loop
+sound-at-requires c κs = search needs
+
+refused-in-requires-2 : tie.Need-refused-in-requires-2 Inv-loop3 μ-loop3 Inv-loop2 μ-loop2 Inv-loop μ-loop
+refused-in-requires-2 c κs = search needs
+
+same-length-2 : tie.Need-same-length-2 Inv-loop3 μ-loop3 Inv-loop2 μ-loop2 Inv-loop μ-loop
+same-length-2 c = blockOf (inBlock (c .before .before .before .before .before .before)) .before .loop .inv .6
+
+returns-2 : tie.Need-returns-2 Inv-loop3 μ-loop3 Inv-loop2 μ-loop2 Inv-loop μ-loop
+returns-2 c =
+    refuse-parsed (message (c .before .before .before .before .before .before)) _ (c .before .before .before .sound-at .result .cursor) (sound-parsed (c .before .before .before)) (c .before .if10 .taken) (c .refused-in2 .result) (c .refused-in2 .ensures)
+
+slice-aggregate-put-sound-behind : tie.Need-slice-aggregate-put-sound-behind Inv-loop3 μ-loop3 Inv-loop2 μ-loop2 Inv-loop μ-loop
+slice-aggregate-put-sound-behind c = sym (message (c .before .before .before .before .before .before .before) .reached .2)
+
+put-sound-behind-requires : tie.Need-put-sound-behind-requires Inv-loop3 μ-loop3 Inv-loop2 μ-loop2 Inv-loop μ-loop
+put-sound-behind-requires c κs = room-for (message (c .before .before .before .before .before .before .before)) 16 (omega arith)
 
 context-requires : tie.Need-context-requires Inv-loop3 μ-loop3 Inv-loop2 μ-loop2 Inv-loop μ-loop
 context-requires c κs = search needs
@@ -962,15 +1082,15 @@ context-requires c κs = search needs
 time-at-requires : tie.Need-time-at-requires Inv-loop3 μ-loop3 Inv-loop2 μ-loop2 Inv-loop μ-loop
 time-at-requires c κs = search needs
 
-refused-in-requires-2 : tie.Need-refused-in-requires-2 Inv-loop3 μ-loop3 Inv-loop2 μ-loop2 Inv-loop μ-loop
-refused-in-requires-2 c κs = search needs
+refused-in-requires-3 : tie.Need-refused-in-requires-3 Inv-loop3 μ-loop3 Inv-loop2 μ-loop2 Inv-loop μ-loop
+refused-in-requires-3 c κs = search needs
 
-same-length-2 : tie.Need-same-length-2 Inv-loop3 μ-loop3 Inv-loop2 μ-loop2 Inv-loop μ-loop
-same-length-2 c = blockOf (inBlock (c .before .before .before .before .before .before .before)) .before .loop .inv .6
+same-length-3 : tie.Need-same-length-3 Inv-loop3 μ-loop3 Inv-loop2 μ-loop2 Inv-loop μ-loop
+same-length-3 c = blockOf (inBlock (c .before .before .before .before .before .before .before)) .before .loop .inv .6
 
-returns-2 : tie.Need-returns-2 Inv-loop3 μ-loop3 Inv-loop2 μ-loop2 Inv-loop μ-loop
-returns-2 c =
-    refuse-parsed (message (c .before .before .before .before .before .before .before)) _ (c .before .before .before .time-at .result .cursor) (time-parsed (c .before .before .before)) (c .before .if10 .taken) (c .refused-in2 .result) (c .refused-in2 .ensures)
+returns-3 : tie.Need-returns-3 Inv-loop3 μ-loop3 Inv-loop2 μ-loop2 Inv-loop μ-loop
+returns-3 c =
+    refuse-parsed (message (c .before .before .before .before .before .before .before)) _ (c .before .before .before .time-at .result .cursor) (time-parsed (c .before .before .before)) (c .before .if11 .taken) (c .refused-in3 .result) (c .refused-in3 .ensures)
 
 add-client-at : tie.Need-add-client-at Inv-loop3 μ-loop3 Inv-loop2 μ-loop2 Inv-loop μ-loop
 add-client-at c = place-fits (message (c .before .before))
@@ -978,15 +1098,15 @@ add-client-at c = place-fits (message (c .before .before))
 client-at-requires : tie.Need-client-at-requires Inv-loop3 μ-loop3 Inv-loop2 μ-loop2 Inv-loop μ-loop
 client-at-requires c κs = search needs
 
-refused-in-requires-3 : tie.Need-refused-in-requires-3 Inv-loop3 μ-loop3 Inv-loop2 μ-loop2 Inv-loop μ-loop
-refused-in-requires-3 c κs = search needs
+refused-in-requires-4 : tie.Need-refused-in-requires-4 Inv-loop3 μ-loop3 Inv-loop2 μ-loop2 Inv-loop μ-loop
+refused-in-requires-4 c κs = search needs
 
-same-length-3 : tie.Need-same-length-3 Inv-loop3 μ-loop3 Inv-loop2 μ-loop2 Inv-loop μ-loop
-same-length-3 c = blockOf (inBlock (c .before .before .before .before .before .before)) .before .loop .inv .6
+same-length-4 : tie.Need-same-length-4 Inv-loop3 μ-loop3 Inv-loop2 μ-loop2 Inv-loop μ-loop
+same-length-4 c = blockOf (inBlock (c .before .before .before .before .before .before)) .before .loop .inv .6
 
-returns-3 : tie.Need-returns-3 Inv-loop3 μ-loop3 Inv-loop2 μ-loop2 Inv-loop μ-loop
-returns-3 c =
-    refuse-parsed (message (c .before .before .before .before .before .before)) _ (c .before .before .before .client-at .result .cursor) (client-parsed (c .before .before .before)) (c .before .if11 .taken) (c .refused-in3 .result) (c .refused-in3 .ensures)
+returns-4 : tie.Need-returns-4 Inv-loop3 μ-loop3 Inv-loop2 μ-loop2 Inv-loop μ-loop
+returns-4 c =
+    refuse-parsed (message (c .before .before .before .before .before .before)) _ (c .before .before .before .client-at .result .cursor) (client-parsed (c .before .before .before)) (c .before .if12 .taken) (c .refused-in4 .result) (c .refused-in4 .ensures)
 
 slice-aggregate-put-client-behind : tie.Need-slice-aggregate-put-client-behind Inv-loop3 μ-loop3 Inv-loop2 μ-loop2 Inv-loop μ-loop
 slice-aggregate-put-client-behind c = sym (message (c .before .before .before .before .before .before .before .before) .reached .2)
@@ -1006,16 +1126,16 @@ is-passed-requires c κs = search needs
 pass-message-requires : tie.Need-pass-message-requires Inv-loop3 μ-loop3 Inv-loop2 μ-loop2 Inv-loop μ-loop
 pass-message-requires c κs = passes (c .before)
 
-refused-in-requires-4 : tie.Need-refused-in-requires-4 Inv-loop3 μ-loop3 Inv-loop2 μ-loop2 Inv-loop μ-loop
-refused-in-requires-4 c κs = search needs
+refused-in-requires-5 : tie.Need-refused-in-requires-5 Inv-loop3 μ-loop3 Inv-loop2 μ-loop2 Inv-loop μ-loop
+refused-in-requires-5 c κs = search needs
 
-same-length-4 : tie.Need-same-length-4 Inv-loop3 μ-loop3 Inv-loop2 μ-loop2 Inv-loop μ-loop
-same-length-4 c = blockOf (inBlock (c .before .before .before .before .before .before .before .before .before)) .before .loop .inv .6
+same-length-5 : tie.Need-same-length-5 Inv-loop3 μ-loop3 Inv-loop2 μ-loop2 Inv-loop μ-loop
+same-length-5 c = blockOf (inBlock (c .before .before .before .before .before .before .before .before .before)) .before .loop .inv .6
 
-returns-4 : tie.Need-returns-4 Inv-loop3 μ-loop3 Inv-loop2 μ-loop2 Inv-loop μ-loop
-returns-4 c =
+returns-5 : tie.Need-returns-5 Inv-loop3 μ-loop3 Inv-loop2 μ-loop2 Inv-loop μ-loop
+returns-5 c =
     let r = c .before .before in
-    refuse-parsed (passedAt r) _ (r .pass-message .result) (pass-parsed r) (c .before .if14 .taken) (c .refused-in4 .result) (c .refused-in4 .ensures)
+    refuse-parsed (passedAt r) _ (r .pass-message .result) (pass-parsed r) (c .before .if15 .taken) (c .refused-in5 .result) (c .refused-in5 .ensures)
 
 add-messages-2 : tie.Need-add-messages-2 Inv-loop3 μ-loop3 Inv-loop2 μ-loop2 Inv-loop μ-loop
 add-messages-2 c = counts (passedAt (c .before))
@@ -1026,8 +1146,8 @@ loop2-less-2 c = omega (arith, step-less (passedAt (c .before)) _ (c .before .pa
 loop2-again-2 : tie.Need-loop2-again-2 Inv-loop3 μ-loop3 Inv-loop2 μ-loop2 Inv-loop μ-loop
 loop2-again-2 c =
     let p = passedAt (c .before) in
-    let q = step-on p _ (c .before .pass-message .result .at) _ _ _ (pass-step c) in
-    (q .0, q .1, q .2, q .3, p .reached .4 ∙ q .4, q .5)
+    let q = step-on p _ (c .before .pass-message .result .at) _ _ _ (pass-step c) _ _ (later p _ (c .before .pass-message .result .at) _ _ _ (pass-step c)) in
+    (q .0, q .1, q .2, q .3, p .reached .4 ∙ q .4, q .5, q .6)
 
 context-requires-3 : tie.Need-context-requires-3 Inv-loop3 μ-loop3 Inv-loop2 μ-loop2 Inv-loop μ-loop
 context-requires-3 c κs = search needs
@@ -1035,21 +1155,15 @@ context-requires-3 c κs = search needs
 read-message-requires : tie.Need-read-message-requires Inv-loop3 μ-loop3 Inv-loop2 μ-loop2 Inv-loop μ-loop
 read-message-requires c κs = search needs
 
-refused-in-requires-5 : tie.Need-refused-in-requires-5 Inv-loop3 μ-loop3 Inv-loop2 μ-loop2 Inv-loop μ-loop
-refused-in-requires-5 c κs = search needs
+refused-in-requires-6 : tie.Need-refused-in-requires-6 Inv-loop3 μ-loop3 Inv-loop2 μ-loop2 Inv-loop μ-loop
+refused-in-requires-6 c κs = search needs
 
-same-length-5 : tie.Need-same-length-5 Inv-loop3 μ-loop3 Inv-loop2 μ-loop2 Inv-loop μ-loop
-same-length-5 c = blockOf (inBlock (c .before .before .before .before .before .before .before .before .before .before)) .before .loop .inv .6
+same-length-6 : tie.Need-same-length-6 Inv-loop3 μ-loop3 Inv-loop2 μ-loop2 Inv-loop μ-loop
+same-length-6 c = blockOf (inBlock (c .before .before .before .before .before .before .before .before .before .before)) .before .loop .inv .6
 
-returns-5 : tie.Need-returns-5 Inv-loop3 μ-loop3 Inv-loop2 μ-loop2 Inv-loop μ-loop
-returns-5 c =
-    refuse-parsed (message (c .before .before .before .before .before .before .before .before .before .before)) _ (c .before .before .before .read-message .result .cursor) (other-read (c .before .before .before)) (c .before .if15 .taken) (c .refused-in5 .result) (c .refused-in5 .ensures)
-
-slice-aggregate-put-sound-behind : tie.Need-slice-aggregate-put-sound-behind Inv-loop3 μ-loop3 Inv-loop2 μ-loop2 Inv-loop μ-loop
-slice-aggregate-put-sound-behind c = sym (message (c .before .before .before .before .before .before .before .before .before .before) .reached .2)
-
-put-sound-behind-requires : tie.Need-put-sound-behind-requires Inv-loop3 μ-loop3 Inv-loop2 μ-loop2 Inv-loop μ-loop
-put-sound-behind-requires c κs = room-for (message (c .before .before .before .before .before .before .before .before .before .before)) 16 (omega arith)
+returns-6 : tie.Need-returns-6 Inv-loop3 μ-loop3 Inv-loop2 μ-loop2 Inv-loop μ-loop
+returns-6 c =
+    refuse-parsed (message (c .before .before .before .before .before .before .before .before .before .before)) _ (c .before .before .before .read-message .result .cursor) (other-read (c .before .before .before)) (c .before .if16 .taken) (c .refused-in6 .result) (c .refused-in6 .ensures)
 
 enum-known-message : tie.Need-enum-known-message Inv-loop3 μ-loop3 Inv-loop2 μ-loop2 Inv-loop μ-loop
 enum-known-message c = search needs
@@ -1071,7 +1185,7 @@ cleared-scene-requires c κs = search needs
 
 apply-rest-requires : tie.Need-apply-rest-requires Inv-loop3 μ-loop3 Inv-loop2 μ-loop2 Inv-loop μ-loop
 unfolding sceneWith
-apply-rest-requires c κs = omega (arith, range→ (scene (message (c .before .before .before .before .before .before .before .before .before .before .before .before .before))) (message (c .before .before .before .before .before .before .before .before .before .before .before .before .before) .reached .3) .statics)
+apply-rest-requires c κs = omega (arith, range→ (scene (message (c .before .before .before .before .before .before .before .before .before .before))) (message (c .before .before .before .before .before .before .before .before .before .before) .reached .3) .statics)
 
 add-update-head-2 : tie.Need-add-update-head-2 Inv-loop3 μ-loop3 Inv-loop2 μ-loop2 Inv-loop μ-loop
 add-update-head-2 c = place-fits (message (c .before .before .before .before))
@@ -1100,8 +1214,11 @@ mul-records-2 c = omega (arith, tested (c .before .before .before .before .befor
 array-set-from-records-2 : tie.Need-array-set-from-records-2 Inv-loop3 μ-loop3 Inv-loop2 μ-loop2 Inv-loop μ-loop
 array-set-from-records-2 c = tested (c .before .before .before .before .before .before .before) .0
 
-array-write-present-2 : tie.Need-array-write-present-2 Inv-loop3 μ-loop3 Inv-loop2 μ-loop2 Inv-loop μ-loop
-array-write-present-2 c = tested (c .before .before .before .before .before .before .before) .0
+mul-marks-2 : tie.Need-mul-marks-2 Inv-loop3 μ-loop3 Inv-loop2 μ-loop2 Inv-loop μ-loop
+mul-marks-2 c = omega (arith, tested (c .before .before .before .before .before .before .before) .0)
+
+array-write-marks-2 : tie.Need-array-write-marks-2 Inv-loop3 μ-loop3 Inv-loop2 μ-loop2 Inv-loop μ-loop
+array-write-marks-2 c = tested (c .before .before .before .before .before .before .before) .0
 
 add-messages-3 : tie.Need-add-messages-3 Inv-loop3 μ-loop3 Inv-loop2 μ-loop2 Inv-loop μ-loop
 add-messages-3 c = counts (placeOf (c .before .before .before))
@@ -1112,21 +1229,22 @@ loop2-less-3 c = omega (arith, step-less (placeOf (c .before .before .before)) _
 loop2-again-3 : tie.Need-loop2-again-3 Inv-loop3 μ-loop3 Inv-loop2 μ-loop2 Inv-loop μ-loop
 loop2-again-3 c =
     let p = placeOf (c .before .before .before) in
-    let q = step-on p _ (fieldsAgain (c .before .before .before) .next) _ _ _ (again-step c) in
-    (q .0, q .1, q .2, q .3, p .reached .4 ∙ q .4, q .5)
+    let r = c .before .before .before in
+    let q = step-on p _ (fieldsAgain r .next) _ _ _ (again-step c) _ _ (loaded-later p (kindOf r) (headAgain r) (fieldsAgain r) (again r) (p .at) (omega arith) (omega (arith, moves-again r))) in
+    (q .0, q .1, q .2, q .3, p .reached .4 ∙ q .4, q .5, q .6)
 
 read-update-requires : tie.Need-read-update-requires Inv-loop3 μ-loop3 Inv-loop2 μ-loop2 Inv-loop μ-loop
 read-update-requires c κs = search needs
 
-refused-in-requires-6 : tie.Need-refused-in-requires-6 Inv-loop3 μ-loop3 Inv-loop2 μ-loop2 Inv-loop μ-loop
-refused-in-requires-6 c κs = search needs
+refused-in-requires-7 : tie.Need-refused-in-requires-7 Inv-loop3 μ-loop3 Inv-loop2 μ-loop2 Inv-loop μ-loop
+refused-in-requires-7 c κs = search needs
 
-same-length-6 : tie.Need-same-length-6 Inv-loop3 μ-loop3 Inv-loop2 μ-loop2 Inv-loop μ-loop
-same-length-6 c = blockOf (inBlock (c .before .before .before .before .before .before .before .before)) .before .loop .inv .6
+same-length-7 : tie.Need-same-length-7 Inv-loop3 μ-loop3 Inv-loop2 μ-loop2 Inv-loop μ-loop
+same-length-7 c = blockOf (inBlock (c .before .before .before .before .before .before .before .before)) .before .loop .inv .6
 
-returns-6 : tie.Need-returns-6 Inv-loop3 μ-loop3 Inv-loop2 μ-loop2 Inv-loop μ-loop
-returns-6 c =
-    refuse-parsed (message (c .before .before .before .before .before .before .before .before)) _ (c .before .before .before .read-update .result .cursor) (update-read (c .before .before .before)) (c .before .if19 .taken) (c .refused-in6 .result) (c .refused-in6 .ensures)
+returns-7 : tie.Need-returns-7 Inv-loop3 μ-loop3 Inv-loop2 μ-loop2 Inv-loop μ-loop
+returns-7 c =
+    refuse-parsed (message (c .before .before .before .before .before .before .before .before)) _ (c .before .before .before .read-update .result .cursor) (update-read (c .before .before .before)) (c .before .if20 .taken) (c .refused-in7 .result) (c .refused-in7 .ensures)
 
 cast-i-2 : tie.Need-cast-i-2 Inv-loop3 μ-loop3 Inv-loop2 μ-loop2 Inv-loop μ-loop
 cast-i-2 c = search needs
@@ -1152,20 +1270,23 @@ mul-records-3 c = omega (arith, update-index (c .before .before .before .before 
 array-set-from-records-3 : tie.Need-array-set-from-records-3 Inv-loop3 μ-loop3 Inv-loop2 μ-loop2 Inv-loop μ-loop
 array-set-from-records-3 c = update-index (c .before .before .before .before .before .before .before .before)
 
-array-write-present-3 : tie.Need-array-write-present-3 Inv-loop3 μ-loop3 Inv-loop2 μ-loop2 Inv-loop μ-loop
-array-write-present-3 c = update-index (c .before .before .before .before .before .before .before .before)
+mul-marks-3 : tie.Need-mul-marks-3 Inv-loop3 μ-loop3 Inv-loop2 μ-loop2 Inv-loop μ-loop
+mul-marks-3 c = omega (arith, update-index (c .before .before .before .before .before .before .before .before))
+
+array-write-marks-3 : tie.Need-array-write-marks-3 Inv-loop3 μ-loop3 Inv-loop2 μ-loop2 Inv-loop μ-loop
+array-write-marks-3 c = update-index (c .before .before .before .before .before .before .before .before)
 
 add-messages-4 : tie.Need-add-messages-4 Inv-loop3 μ-loop3 Inv-loop2 μ-loop2 Inv-loop μ-loop
 add-messages-4 c = counts (message (c .before .before))
 
 loop2-less-4 : tie.Need-loop2-less-4 Inv-loop3 μ-loop3 Inv-loop2 μ-loop2 Inv-loop μ-loop
-loop2-less-4 c = omega (arith, step-less (message (c .before .before)) (next c) (c .match .at) (c .match .body) (c .match .size) (c .match .kept) (came c), c .before .before .before .before .loop3 .inv .1)
+loop2-less-4 c = omega (arith, step-less (message (c .before .before)) (next c) (c .match .at) (c .match .body) (c .match .size) (c .match .kept) (came c .0), c .before .before .before .before .loop3 .inv .1)
 
 loop2-again-4 : tie.Need-loop2-again-4 Inv-loop3 μ-loop3 Inv-loop2 μ-loop2 Inv-loop μ-loop
 loop2-again-4 c =
     let p = message (c .before .before) in
-    let q = step-on p (next c) (c .match .at) (c .match .body) (c .match .size) (c .match .kept) (came c) in
-    (q .0, q .1, q .2, q .3, p .reached .4 ∙ q .4, q .5)
+    let q = step-on p (next c) (c .match .at) (c .match .body) (c .match .size) (c .match .kept) (came c .0) _ _ (came c .1) in
+    (q .0, q .1, q .2, q .3, p .reached .4 ∙ q .4, q .5, q .6)
 
 slice-aggregate-put-copy : tie.Need-slice-aggregate-put-copy Inv-loop3 μ-loop3 Inv-loop2 μ-loop2 Inv-loop μ-loop
 slice-aggregate-put-copy c = sym (c .before .before .loop2 .inv .2)
@@ -1179,17 +1300,17 @@ put-copy-requires c κs =
 block-size-requires : tie.Need-block-size-requires Inv-loop3 μ-loop3 Inv-loop2 μ-loop2 Inv-loop μ-loop
 block-size-requires c κs = fits (c .before) .0
 
-sub-if20 : tie.Need-sub-if20 Inv-loop3 μ-loop3 Inv-loop2 μ-loop2 Inv-loop μ-loop
-sub-if20 c = c .before .before .before .before .before .before .before .before .before .before .before .before .before .loop .inv .5
+sub-if21 : tie.Need-sub-if21 Inv-loop3 μ-loop3 Inv-loop2 μ-loop2 Inv-loop μ-loop
+sub-if21 c = c .before .before .before .before .before .before .before .before .before .before .before .before .before .loop .inv .5
 
-refused-in-requires-7 : tie.Need-refused-in-requires-7 Inv-loop3 μ-loop3 Inv-loop2 μ-loop2 Inv-loop μ-loop
-refused-in-requires-7 c κs = search needs
+refused-in-requires-8 : tie.Need-refused-in-requires-8 Inv-loop3 μ-loop3 Inv-loop2 μ-loop2 Inv-loop μ-loop
+refused-in-requires-8 c κs = search needs
 
-same-length-7 : tie.Need-same-length-7 Inv-loop3 μ-loop3 Inv-loop2 μ-loop2 Inv-loop μ-loop
-same-length-7 c = c .before .before .before .before .before .before .before .before .before .before .before .before .before .before .before .loop .inv .6
+same-length-8 : tie.Need-same-length-8 Inv-loop3 μ-loop3 Inv-loop2 μ-loop2 Inv-loop μ-loop
+same-length-8 c = c .before .before .before .before .before .before .before .before .before .before .before .before .before .before .before .loop .inv .6
 
-returns-7 : tie.Need-returns-7 Inv-loop3 μ-loop3 Inv-loop2 μ-loop2 Inv-loop μ-loop
-returns-7 c = short (c .before) (c .refused-in7 .result) (c .refused-in7 .ensures)
+returns-8 : tie.Need-returns-8 Inv-loop3 μ-loop3 Inv-loop2 μ-loop2 Inv-loop μ-loop
+returns-8 c = short (c .before) (c .refused-in8 .result) (c .refused-in8 .ensures)
 
 slice-aggregate-store-block : tie.Need-slice-aggregate-store-block Inv-loop3 μ-loop3 Inv-loop2 μ-loop2 Inv-loop μ-loop
 slice-aggregate-store-block c = sym (fits (c .before .before .before .before .before) .1)
@@ -1200,10 +1321,10 @@ store-block-requires c κs =
     (room-there (c .before .before), omega (arith, f), f .0)
 
 add-written : tie.Need-add-written Inv-loop3 μ-loop3 Inv-loop2 μ-loop2 Inv-loop μ-loop
-add-written c = omega (arith, c .before .before .before .before .before .if20 .left, c .before .before .before .before .before .before .before .before .before .before .before .before .before .before .before .before .before .before .before .loop .inv .5, c .before .before .before .before .before .before .before .before .before .before .before .before .before .before .before .before .before .before .before .before .before .before .before .before .before .before .fits .room)
+add-written c = omega (arith, c .before .before .before .before .before .if21 .left, c .before .before .before .before .before .before .before .before .before .before .before .before .before .before .before .before .before .before .before .loop .inv .5, c .before .before .before .before .before .before .before .before .before .before .before .before .before .before .before .before .before .before .before .before .before .before .before .before .before .before .before .fits .room)
 
 add-blocks : tie.Need-add-blocks Inv-loop3 μ-loop3 Inv-loop2 μ-loop2 Inv-loop μ-loop
-add-blocks c = omega (arith, more (c .before .before .before .before .before .before .before .before .before .before .before .before .before .before .before .before .before .before), c .before .before .before .before .before .before .before .before .before .before .before .before .before .before .before .before .before .before .before .before .before .before .before .before .before .before .fits .most)
+add-blocks c = omega (arith, more (c .before .before .before .before .before .before .before .before .before .before .before .before .before .before .before .before .before .before), c .before .before .before .before .before .before .before .before .before .before .before .before .before .before .before .before .before .before .before .before .before .before .before .before .before .before .before .fits .most)
 
 loop-less : tie.Need-loop-less Inv-loop3 μ-loop3 Inv-loop2 μ-loop2 Inv-loop μ-loop
 loop-less c = omega (arith, more (c .before .before .before .before .before .before .before .before .before .before .before .before .before .before .before .before .before .before))
@@ -1222,42 +1343,52 @@ loop-again c =
       omega (arith, k .inv .0),
       omega (arith, more (blockOf o)),
       k .inv .3,
-      omega (arith, e .if20 .left, l .inv .5),
+      omega (arith, e .if21 .left, l .inv .5),
       kept-length w _ (w .store-block .ensures) ∙ l .inv .6,
       fits (copying (e .before)) .1,
+      within-more (k .marks) (length (body o)) (end o + 1) (k .inv .6 .marks-inside) (omega (arith, body-long o)),
+      omega (arith, k .inv .6 .time-inside, body-long o),
       goes-on e ∙ ap₂ (λ (x : List ℕ) (j : ℕ). wroteOf (sceneOf (a .given)) (length (input (blockOf o))) (stores (blockOf o)) (a .base) (l .blocks + 1) (k .messages) (l .written + e .before .block-size .result) x (runOf (a .on) j (a .room - (l .written + e .before .block-size .result)) (after (e .before)) (drop (end o) (input (blockOf o))))) (stored-there w _ (w .store-block .ensures)) n,
     )
 
-same-length-8 : tie.Need-same-length-8 Inv-loop3 μ-loop3 Inv-loop2 μ-loop2 Inv-loop μ-loop
-same-length-8 c = c .before .loop .inv .6
-
-returns-8 : tie.Need-returns-8 Inv-loop3 μ-loop3 Inv-loop2 μ-loop2 Inv-loop μ-loop
-returns-8 c =
-    let a = c .before .before .before .before .before .before .before .before .args in
+-- What is told where the loop over blocks is left: no block is to be read, or the one that is there is refused.
+left-loop : (c : tie.Left-loop Inv-loop3 μ-loop3 Inv-loop2 μ-loop2 Inv-loop μ-loop)
+    → let k = c .before .loop in
+    let a = c .before .before .before .before .before .before .before .before .before .args in
+    record { told = record { scene = held (k .baselines) (k .records) (marked (k .since) (k .marks)) (k .rest); blocks = k .blocks; messages = k .messages; next = k .start; refusal = c .loop-test .refusal; place = k .start }; written = k .written; room = k .out }
+    ≡ wroteOf (sceneOf (a .given)) (length (a .d .now)) (stored (a .out .now) (a .base) (a .room)) (a .base) 0 0 0 (a .out .now) (runOf (a .on) (a .most) (a .room) (sceneOf (a .given)) (drop (a .from) (a .d .now)))
+unfolding sceneWith
+left-loop c =
+    let a = c .before .before .before .before .before .before .before .before .before .args in
     let k = c .before .loop in
     let d = a .d .now in
-    let t = held (k .baselines) (k .records) (k .present) (k .rest) in
+    let t = held (k .baselines) (k .records) (marked (k .since) (k .marks)) (k .rest) in
     let s = stored (a .out .now) (a .base) (a .room) in
-    ap (λ (n : ℕ). record { told = record { scene = t; blocks = k .blocks; messages = k .messages; next = k .start; refusal = n; place = k .start }; written = k .written; room = k .out }) (k .inv .0)
-    ∙ sym (k .inv .8
-    ∙ run-over (sceneOf (a .given)) d (a .on) s (a .room) (a .base) (k .blocks) (k .messages) (k .written) (k .out) t (k .start) (a .most) (k .blocks) (k .inv .1) (c .loop-test .left))
+    let tells : ℕ → Wrote = λ n. record { told = record { scene = t; blocks = k .blocks; messages = k .messages; next = k .start; refusal = n; place = k .start }; written = k .written; room = k .out } in
+    ⊎-elim
+    (λ w. ap tells (w .1 ∙ k .inv .0)
+    ∙ sym (k .inv .10
+    ∙ run-over (sceneOf (a .given)) d (a .on) s (a .room) (a .base) (k .blocks) (k .messages) (k .written) (k .out) t (k .start) (a .most) (k .blocks) (k .inv .1) (w .0 .left)))
+    (⊎-elim
+    (λ w.
+    let b : AtBlock = record { before = c .before; loop-test = w .0 } in
+    ap tells (w .2) ∙ stop-block b 11 (block-ended (before b) (drop (k .start) (input b)) (w .1 .taken)))
+    (λ w.
+    let b : AtBlock = record { before = c .before; loop-test = w .0 } in
+    ap tells (w .4) ∙ stop-block b (w .2 .result .refusal) (head-refused (input b) (k .start) (w .2 .result) (w .2 .ensures .0) (before b) (w .1 .left) (w .3 .taken))))
+    (c .loop-test .came)
+
+present-of-requires : tie.Need-present-of-requires Inv-loop3 μ-loop3 Inv-loop2 μ-loop2 Inv-loop μ-loop
+present-of-requires c κs = search needs
 
 same-length-9 : tie.Need-same-length-9 Inv-loop3 μ-loop3 Inv-loop2 μ-loop2 Inv-loop μ-loop
 same-length-9 c = c .before .before .loop .inv .6
 
 returns-9 : tie.Need-returns-9 Inv-loop3 μ-loop3 Inv-loop2 μ-loop2 Inv-loop μ-loop
-unfolding sceneWith
-returns-9 c = stop-block (c .before) 11 (block-ended (before (c .before)) (drop (c .before .before .loop .start) (input (c .before))) (c .if1 .taken))
-
-same-length-10 : tie.Need-same-length-10 Inv-loop3 μ-loop3 Inv-loop2 μ-loop2 Inv-loop μ-loop
-same-length-10 c = c .before .before .before .before .loop .inv .6
-
-returns-10 : tie.Need-returns-10 Inv-loop3 μ-loop3 Inv-loop2 μ-loop2 Inv-loop μ-loop
-unfolding sceneWith
-returns-10 c =
-    let b = c .before .before .before in
-    stop-block b (c .before .read-head .result .refusal)
-    (head-refused (input b) (b .before .loop .start) (c .before .read-head .result) (c .before .read-head .ensures .0) (before b) (c .before .before .if1 .left) (c .if2 .taken))
+returns-9 c =
+    let k = c .before .before .loop in
+    ap (λ (p : List Bool). record { told = record { scene = held (k .baselines) (k .records) p (k .rest); blocks = k .blocks; messages = k .messages; next = k .start; refusal = c .before .loop-test .refusal; place = k .start }; written = k .written; room = k .out }) (c .present-of .ensures)
+    ∙ left-loop (c .before)
 
 pub write-blocks-spec : {M : Type 1} → statement M
 write-blocks-spec =
@@ -1269,6 +1400,7 @@ write-blocks-spec =
     μ-loop2
     Inv-loop
     μ-loop
+    marks-of-requires
     sub-stores
     loop-holds
     read-head-requires
@@ -1289,43 +1421,48 @@ write-blocks-spec =
     update-fields-requires
     mul-records
     array-set-from-records
-    array-write-present
+    mul-marks
+    array-write-marks
     add-messages
     loop3-less
     loop3-again
     loop2-less
     loop2-again
     shared-slice-read-k-2
-    add-t90
-    context-requires
-    time-at-requires
+    add-t99
+    sound-at-requires
     refused-in-requires-2
     same-length-2
     returns-2
-    add-client-at
-    client-at-requires
+    slice-aggregate-put-sound-behind
+    put-sound-behind-requires
+    context-requires
+    time-at-requires
     refused-in-requires-3
     same-length-3
     returns-3
+    add-client-at
+    client-at-requires
+    refused-in-requires-4
+    same-length-4
+    returns-4
     slice-aggregate-put-client-behind
     put-client-behind-requires
     with-client-requires
     is-passed-requires
     context-requires-2
     pass-message-requires
-    refused-in-requires-4
-    same-length-4
-    returns-4
+    refused-in-requires-5
+    same-length-5
+    returns-5
     add-messages-2
     loop2-less-2
     loop2-again-2
     context-requires-3
     read-message-requires
-    refused-in-requires-5
-    same-length-5
-    returns-5
-    slice-aggregate-put-sound-behind
-    put-sound-behind-requires
+    refused-in-requires-6
+    same-length-6
+    returns-6
     enum-known-message
     cast-i
     mul-baselines
@@ -1342,14 +1479,15 @@ write-blocks-spec =
     put-update-behind-requires
     mul-records-2
     array-set-from-records-2
-    array-write-present-2
+    mul-marks-2
+    array-write-marks-2
     add-messages-3
     loop2-less-3
     loop2-again-3
     read-update-requires
-    refused-in-requires-6
-    same-length-6
-    returns-6
+    refused-in-requires-7
+    same-length-7
+    returns-7
     cast-i-2
     mul-b-3
     array-copy-out-b-3
@@ -1358,26 +1496,24 @@ write-blocks-spec =
     put-update-behind-requires-2
     mul-records-3
     array-set-from-records-3
-    array-write-present-3
+    mul-marks-3
+    array-write-marks-3
     add-messages-4
     loop2-less-4
     loop2-again-4
     slice-aggregate-put-copy
     put-copy-requires
     block-size-requires
-    sub-if20
-    refused-in-requires-7
-    same-length-7
-    returns-7
+    sub-if21
+    refused-in-requires-8
+    same-length-8
+    returns-8
     slice-aggregate-store-block
     store-block-requires
     add-written
     add-blocks
     loop-less
     loop-again
-    same-length-8
-    returns-8
+    present-of-requires
     same-length-9
-    returns-9
-    same-length-10
-    returns-10)
+    returns-9)

@@ -123,7 +123,8 @@ fn quick_until(len: usize, end: usize) -> usize
     if end < last { end } else { last }
 }
 
-// ---- marks, as places: an entity is marked where its last update ends behind the last time. So a time takes no mark away one by one.
+// ---- marks as places: an entity is marked where a place of its last update stands behind that of the last time, so that a time
+// touches no mark
 
 fn marks_of(present: [bool; 449]) -> [usize; 449]
     ensures { λ r. ⌜ r ≡ map bitOf present ⌝ }

@@ -10,17 +10,19 @@ use lib.Dec.{eqb, ltb}
 use lib.IntN.{ℤ}
 use lib.ListN.{length, take, drop, getD}
 use lib.Signed.{mag}
-use mir.Syntax.{Width}
+use mir.Syntax.{Width, w8, w16}
 use mir.Val.{ofZ, toZ, hbits}
 use Rattle.dem.specs.Bytes.{leRead, isSet, bit, bitOf}
 use Rattle.dem.specs.Layout.{Value, number}
-use Rattle.dem.specs.Masked.{Slot, Mask, isSent}
+use Rattle.dem.specs.Masked.{Slot, Mask, slot, isSent}
 use Rattle.dem.specs.Message.{highBit, wideBit}
 use Rattle.dem.proofs.ByteLaws.{bit-div}
 use Rattle.dem.proofs.AtLaws.{one-at, two-at}
 use Rattle.wire.proofs.SignedLaws.{same-bits}
 use Rattle.masked.proofs.MaskLaws.{update-mask}
-use Rattle.quick.specs.Spread.{fieldOr, behind, needlessOr, spread, passed, needlessIn}
+use Rattle.message.specs.declared.Pose.{Pose}
+use Rattle.message.specs.Values.{poseValues}
+use Rattle.quick.specs.Spread.{fieldOr, behind, needlessOr, spread, passed, needlessIn, poseSlots}
 use Rattle.quick.specs.Heads.{highAt, maskAt, entityWidth, headAt, needlessHead}
 use Rattle.quick.specs.declared.UpdateHead.{UpdateHead}
 
@@ -54,12 +56,15 @@ module _ (d : List ℕ) (at : ℕ) (sent : Bool) (w other : ℕ) (before : Bool)
   field-other e = rw e (refl, omega arith, refl)
 
 -- A signed field, its default handed on and its value too.
+abbrev pub Signed : Width → List ℕ → ℕ → Bool → ℕ → Bool → ℤ → ℤ → ℕ → Bool → Type 0
+Signed w d at sent n before v o next flag =
+    (mag v < 2 ^ hbits w) × (mag o < 2 ^ hbits w) × Picks d at sent n (ofZ w (toZ w (ofZ w o))) before (ofZ w v) next flag
+
 pub signed-picks : (w : Width) (d : List ℕ) (at : ℕ) (sent : Bool) (n : ℕ) (before : Bool) (v o : ℤ) (next : ℕ) (flag : Bool)
-    → mag v < 2 ^ hbits w → mag o < 2 ^ hbits w → Picks d at sent n (ofZ w (toZ w (ofZ w o))) before (ofZ w v) next flag
-    → Picks d at sent n (ofZ w o) before (ofZ w (toZ w (ofZ w v))) next flag
-signed-picks w d at sent n before v o next flag fv fo p =
-    let e : ofZ w (toZ w (ofZ w o)) ≡ ofZ w o = same-bits w o _ (record { sfits = fo }) refl in
-    (same-bits w v _ (record { sfits = fv }) (p .0 ∙ ap (fieldOr d at sent n) e), p .1, p .2 ∙ ap (needlessOr before d at sent n) e)
+    → Signed w d at sent n before v o next flag → Picks d at sent n (ofZ w o) before (ofZ w (toZ w (ofZ w v))) next flag
+signed-picks w d at sent n before v o next flag p =
+    let e : ofZ w (toZ w (ofZ w o)) ≡ ofZ w o = same-bits w o _ (record { sfits = p .1 }) refl in
+    (same-bits w v _ (record { sfits = p .0 }) (p .2 .0 ∙ ap (fieldOr d at sent n) e), p .2 .1, p .2 .2 ∙ ap (needlessOr before d at sent n) e)
 
 -- ---- the head
 
@@ -169,6 +174,45 @@ slots-then d mask rs ss at before us next n vs end n′ p e = (
     needless-append [] at b = refl
     needless-append (r ∷ rs) at b =
         needless-append rs (behind at (isSent r mask) (r .width)) (cond (r .always) b (needlessOr b d at (isSent r mask) (r .width) (r .default)))
+
+-- ---- a pose
+
+-- Its fields in turn.
+pub pose-each : (d : List ℕ) (m : Mask) (o : Pose) (at : ℕ) (before : Bool) (x a y b z c : ℤ) (x′ a′ y′ b′ z′ c′ : ℕ) (xn an yn bn zn cn : Bool)
+    → Signed w16 d at (m 1) 2 before x (o .x) x′ xn → Signed w8 d x′ (m 8) 1 xn a (o .angle0) a′ an → Signed w16 d a′ (m 2) 2 an y (o .y) y′ yn
+    → Signed w8 d y′ (m 4) 1 yn b (o .angle1) b′ bn → Signed w16 d b′ (m 3) 2 bn z (o .z) z′ zn → Signed w8 d z′ (m 9) 1 zn c (o .angle2) c′ cn
+    → Spreads d (poseSlots o) m at before
+    (poseValues (record { x = toZ w16 (ofZ w16 x); angle0 = toZ w8 (ofZ w8 a); y = toZ w16 (ofZ w16 y); angle1 = toZ w8 (ofZ w8 b); z = toZ w16 (ofZ w16 z); angle2 = toZ w8 (ofZ w8 c) })) c′ cn
+pose-each d m o at before x a y b z c x′ a′ y′ b′ z′ c′ xn an yn bn zn cn ex ea ey eb ez ec =
+    let ss = poseSlots o in
+    slot-then d m (slot 1 2 (ofZ w16 (o .x))) (drop 1 ss) at before _ x′ xn _ c′ cn refl (signed-picks w16 d at (m 1) 2 before x (o .x) x′ xn ex)
+    (slot-then d m (slot 8 1 (ofZ w8 (o .angle0))) (drop 2 ss) x′ xn _ a′ an _ c′ cn refl (signed-picks w8 d x′ (m 8) 1 xn a (o .angle0) a′ an ea)
+    (slot-then d m (slot 2 2 (ofZ w16 (o .y))) (drop 3 ss) a′ an _ y′ yn _ c′ cn refl (signed-picks w16 d a′ (m 2) 2 an y (o .y) y′ yn ey)
+    (slot-then d m (slot 4 1 (ofZ w8 (o .angle1))) (drop 4 ss) y′ yn _ b′ bn _ c′ cn refl (signed-picks w8 d y′ (m 4) 1 yn b (o .angle1) b′ bn eb)
+    (slot-then d m (slot 3 2 (ofZ w16 (o .z))) (drop 5 ss) b′ bn _ z′ zn _ c′ cn refl (signed-picks w16 d b′ (m 3) 2 bn z (o .z) z′ zn ez)
+    (slot-then d m (slot 9 1 (ofZ w8 (o .angle2))) (drop 6 ss) z′ zn _ c′ cn _ c′ cn refl (signed-picks w8 d z′ (m 9) 1 zn c (o .angle2) c′ cn ec) (refl, refl, refl))))))
+
+-- ---- where reading is left at a field sent needlessly
+
+-- One such field, and it is so of all.
+pub needless-stays : (d : List ℕ) (ss : List Slot) (mask : Mask) (at : ℕ) → needlessIn d ss mask at true ≡ true
+unfolding needlessOr
+needless-stays d [] mask at = refl
+needless-stays d (s ∷ ss) mask at =
+    ap (needlessIn d ss mask (behind at (isSent s mask) (s .width))) (stays (s .always) (isSent s mask) (s .width) (s .default)) ∙ needless-stays d ss mask (behind at (isSent s mask) (s .width))
+  where
+    stays : (a b : Bool) (w o : ℕ) → cond a true (needlessOr true d at b w o) ≡ true
+    stays true b w o = refl
+    stays false true w o = refl
+    stays false false w o = refl
+
+-- Whether one is, of the slots behind a signed one.
+pub signed-flag : (w : Width) (d : List ℕ) (mask : Mask) (k n : ℕ) (ss : List Slot) (at : ℕ) (before : Bool) (o : ℤ) (v next : ℕ) (flag : Bool)
+    → mag o < 2 ^ hbits w → Picks d at (mask k) n (ofZ w (toZ w (ofZ w o))) before v next flag
+    → needlessIn d ss mask next flag ≡ needlessIn d (slot k n (ofZ w o) ∷ ss) mask at before
+signed-flag w d mask k n ss at before o v next flag fo p =
+    let e : ofZ w (toZ w (ofZ w o)) ≡ ofZ w o = same-bits w o _ (record { sfits = fo }) refl in
+    λ i. needlessIn d ss mask (p .1 i) ((p .2 ∙ ap (needlessOr before d at (mask k) n) e) i)
 
 -- Slots as sent: 0 for one that is not.
 unfoldable pub sent : List ℕ → List Slot → Mask → ℕ → List Value

@@ -2,7 +2,7 @@
 // being whole. The place behind the last says whether all that were sent lie in the block.
 ghost use mathlib.Core.Path.{_≡_};
 ghost use mathlib.Core.List.{[], _∷_, _++_};
-ghost use mathlib.Core.Bool.{false};
+ghost use mathlib.Core.Bool.{true, false};
 ghost use Prim.Native.Nat.{_+_, _<_, _≤_};
 ghost use lib.ListN.{length, take, drop};
 ghost use mir.Val.{ofZ};
@@ -223,6 +223,71 @@ fn pose_or(d: &[u8], at: usize, mask: u16, other: Pose, needless: bool) -> PoseO
     }
 }
 
+// What stands for a pose that was left at a field sent needlessly: constants, so that nothing is kept for it.
+fn left_pose() -> PoseOr
+    ensures { λ r. ⌜ r .needless ≡ true ⌝ }
+{
+    let pose = Pose {
+        x: 0,
+        angle0: 0,
+        y: 0,
+        angle1: 0,
+        z: 0,
+        angle2: 0,
+    };
+    PoseOr {
+        pose,
+        next: 0,
+        needless: true,
+    }
+}
+
+// The same as `pose_or`, but left at the first field sent needlessly; pose and place are an answer only where there is none.
+fn needed_pose(d: &[u8], at: usize, mask: u16, other: Pose, needless: bool) -> PoseOr
+    requires { ⌜ at + 9 ≤ length (now d) ⌝ }
+    ensures { λ r. ⌜ r .needless ≡ needlessIn (now (d .entry)) (poseSlots other) (bit mask) at needless ⌝ }
+    ensures pose { λ r. ⌜ (r .needless ≡ false → poseValues (r .pose) ≡ spread (now (d .entry)) (poseSlots other) (bit mask) at) ⌝ }
+    ensures place { λ r. ⌜ (r .needless ≡ false → r .next ≡ passed (poseSlots other) (bit mask) at) ⌝ }
+{
+    if needless {
+        return left_pose();
+    }
+    let x = short_or(d, at, mask, 1, other.x, needless);
+    if x.needless {
+        return left_pose();
+    }
+    let a = char_or(d, x.next, mask, 8, other.angle0, x.needless);
+    if a.needless {
+        return left_pose();
+    }
+    let y = short_or(d, a.next, mask, 2, other.y, a.needless);
+    if y.needless {
+        return left_pose();
+    }
+    let b = char_or(d, y.next, mask, 4, other.angle1, y.needless);
+    if b.needless {
+        return left_pose();
+    }
+    let z = short_or(d, b.next, mask, 3, other.z, b.needless);
+    if z.needless {
+        return left_pose();
+    }
+    let c = char_or(d, z.next, mask, 9, other.angle2, z.needless);
+    let pose = Pose {
+        x: x.value,
+        angle0: a.value,
+        y: y.value,
+        angle1: b.value,
+        z: z.value,
+        angle2: c.value,
+    };
+    PoseOr {
+        pose,
+        next: c.next,
+        needless: c.needless,
+    }
+}
+
 // ---- an update
 
 // Mask and entity, the place behind them, and whether one of their bytes was sent needlessly: a byte of high mask bits that is 0, or a second
@@ -278,6 +343,34 @@ pub fn update_fields(d: &[u8], at: usize, mask: u16, b: Baseline) -> RecordAt
         pose,
     };
     // Each by itself: a look that is copied whole is taken apart and put together again as one number.
+    record.look.model = l.model;
+    record.look.frame = l.frame;
+    record.look.colormap = l.colormap;
+    record.look.skin = l.skin;
+    RecordAt {
+        record,
+        next: p.next,
+        needless: p.needless,
+    }
+}
+
+// The same, but left at the first coordinate or angle sent needlessly; record and place are an answer only where there is none.
+pub fn needed_fields(d: &[u8], at: usize, mask: u16, b: Baseline) -> RecordAt
+    requires { ⌜ at + 14 ≤ length (now d) ⌝ }
+    ensures { λ r. ⌜ r .needless ≡ needlessIn (now (d .entry)) (updateSlots (baselineNumbers b)) (bit mask) at false ⌝ }
+    ensures fields { λ r. ⌜ (r .needless ≡ false → recordValues (r .record) ≡ filledAt (now (d .entry)) (baselineNumbers b) mask at) ⌝ }
+    ensures place { λ r. ⌜ (r .needless ≡ false → r .next ≡ passed (updateSlots (baselineNumbers b)) (bit mask) at) ⌝ }
+{
+    let l = look_or(d, at, mask, b);
+    let p = needed_pose(d, l.next, mask, b.pose, l.needless);
+    let look = b.look;
+    let pose = p.pose;
+    let mut record = Record {
+        bit5: (mask >> 5) % 2 != 0,
+        look,
+        effects: l.effects,
+        pose,
+    };
     record.look.model = l.model;
     record.look.frame = l.frame;
     record.look.colormap = l.colormap;

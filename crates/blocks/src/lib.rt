@@ -204,7 +204,39 @@ pub fn write_blocks(
                 return refused_in(given, blocks, start, 11, at, written);
             }
             // Updates one after the other, as long as each is good, can be loaded whole and, where it is written, is in normal form.
-            while at < stop {
+            while on & (at < stop) {
+                let k = d[at];
+                if k < 128 {
+                    break;
+                }
+                let q = quick::update_head(d, at + 1, k);
+                let i = q.entity;
+                let mask = q.mask;
+                if 449 <= i {
+                    break;
+                }
+                if 32768 <= mask {
+                    break;
+                }
+                if q.needless {
+                    break;
+                }
+                let b = baselines[i];
+                let f = quick::needed_fields(d, q.next, mask, b);
+                if f.needless {
+                    break;
+                }
+                let to = f.next;
+                if end < to {
+                    break;
+                }
+                let record = f.record;
+                records[i] = record;
+                marks[i] = to;
+                at = to;
+                messages += 1;
+            }
+            while !on & (at < stop) {
                 let k = d[at];
                 if k < 128 {
                     break;
@@ -225,10 +257,6 @@ pub fn write_blocks(
                     break;
                 }
                 let record = f.record;
-                let needless = f.needless | q.needless;
-                if on & needless {
-                    break;
-                }
                 records[i] = record;
                 marks[i] = to;
                 at = to;

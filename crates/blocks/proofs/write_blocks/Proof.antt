@@ -2,7 +2,7 @@
 -- block by its messages; each turn is one message, behind a run of updates each of which is one too, and the turns of a block are one block.
 -- Assumes nothing.
 use mathlib.Core.Path.{_≡_, refl, sym, ap, ap₂, _∙_, subst}
-use mathlib.Core.Bool.{Bool, true, false, cond, _&&_}
+use mathlib.Core.Bool.{Bool, true, false, true≢false, cond, not, _&&_}
 use mathlib.Core.Logic.{⊎-elim}
 use Prim.Native.Nat.{ℕ, suc, _+_, _-_, _≤_, _<_}
 use native.Mathlib.Omega.{arith}
@@ -75,7 +75,7 @@ abbrev μ-loop2 : tie.MeasureT-loop2
 μ-loop2 d from most given on room out base baselines₀ records₀ marks₀ since₀ rest₀ body₀ stores start blocks messages₀ written refusal h at₀ end s stop size₀ kept₀ baselines records marks since rest body messages at size kept =
     length s - at
 
--- The loop over updates inside it, which leaves the baselines and the rest as they are and does not go back.
+-- The loops over updates inside it, which leave the baselines and the rest as they are and do not go back.
 abbrev Inv-loop3 : tie.InvT-loop3
 Inv-loop3 d from most given on room out base baselines records₀ marks₀ since rest body stores start blocks messages₀ written refusal h at₀ end s stop size kept records marks messages at =
     let angles = number (h .angle0) ∷ number (h .angle1) ∷ number (h .angle2) ∷ [] in
@@ -86,6 +86,12 @@ Inv-loop3 d from most given on room out base baselines records₀ marks₀ since
 abbrev μ-loop3 : tie.MeasureT-loop3
 μ-loop3 d from most given on room out base baselines records₀ marks₀ since rest body stores start blocks messages₀ written refusal h at₀ end s stop size kept records marks messages at =
     length s - at
+
+abbrev Inv-loop4 : tie.InvT-loop4
+Inv-loop4 = Inv-loop3
+
+abbrev μ-loop4 : tie.MeasureT-loop4
+μ-loop4 = μ-loop3
 
 -- The loop over blocks.
 abbrev Inv-loop : tie.InvT-loop
@@ -103,9 +109,9 @@ abbrev μ-loop : tie.MeasureT-loop
 -- ---- where a block is to be read
 
 abbrev AtBlock : Type 0
-AtBlock = tie.In-loop Inv-loop3 μ-loop3 Inv-loop2 μ-loop2 Inv-loop μ-loop
+AtBlock = tie.In-loop Inv-loop3 μ-loop3 Inv-loop4 μ-loop4 Inv-loop2 μ-loop2 Inv-loop μ-loop
 
-abbrev begun : AtBlock → tie.Start Inv-loop3 μ-loop3 Inv-loop2 μ-loop2 Inv-loop μ-loop
+abbrev begun : AtBlock → tie.Start Inv-loop3 μ-loop3 Inv-loop4 μ-loop4 Inv-loop2 μ-loop2 Inv-loop μ-loop
 begun c = c .before .before .before .before .before .before .before .before .before
 
 abbrev input : AtBlock → List ℕ
@@ -161,7 +167,7 @@ stop-block c k q =
 -- ---- inside a block
 
 abbrev Opened : Type 0
-Opened = tie.After-s Inv-loop3 μ-loop3 Inv-loop2 μ-loop2 Inv-loop μ-loop
+Opened = tie.After-s Inv-loop3 μ-loop3 Inv-loop4 μ-loop4 Inv-loop2 μ-loop2 Inv-loop μ-loop
 
 abbrev blockOf : Opened → AtBlock
 blockOf o = o .before .before .before .before .before
@@ -403,178 +409,268 @@ module _ {o : Opened} (p : Place o) (n : ℕ) (h : UpdateHead) (f : RecordAt) (l
       kept-form (body o) (p .at) (p .inside) (p .baselines) (p .records) (present p) (p .rest) (p .going) n (l .there) (l .large)
       (at-once .high) (h .entity) (at-once .sent) (f .next) (f .record) (at-once .parsed) (at-once .filled) (body-bytes o) (at-once .kept none needed)
 
--- ---- the loop over updates
+  loaded-less : p .at < f .next
+  loaded-less = omega (arith, less p _ (f .next) _ at-quick)
 
-abbrev AtRun : Type 0
-AtRun = tie.At-loop3 Inv-loop3 μ-loop3 Inv-loop2 μ-loop2 Inv-loop μ-loop
+-- Where it is written only if nothing was sent needlessly, it is one message on.
+module _ {o : Opened} (p : Place o) (n : ℕ) (h : UpdateHead) (f : RecordAt) (l : Loaded p n h f) where
+  loaded-on : (begun (blockOf o) .args .on ≡ true → (f .needless ≡ false) × (h .needless ≡ false))
+      → Along (from-here o) (begun (blockOf o) .args .on) (body o) (end o) (p .count) (scene p) (soFar (begun (blockOf o) .args .on) (p .filled) (p .size) (body o) (p .kept) (p .at)) (p .at)
+      (p .count + 1) (updated p n h f l (f .next)) (p .filled) (f .next) (p .size) (p .kept) (set (p .marks) (h .entity) (f .next)) (p .since)
+  loaded-on needed =
+      let before = loaded-less p n h f l in
+      step-on p _ (f .next) _ _ _
+      (kept-step p _ (f .next) _ (loaded-moved p n h f l (f .next) (omega (arith, before)) (omega arith)) (λ on. let z = needed on in loaded-kept p n h f l (z .0) (z .1)))
+      _ _ (loaded-later p n h f l (f .next) (omega (arith, before)) (omega arith))
 
-reached : (c : AtRun)
-    → Reached (c .before .before .before .before .before) (c .loop3 .messages) (held (c .before .before .before .loop2 .baselines) (c .loop3 .records) (marked (c .before .before .before .loop2 .since) (c .loop3 .marks)) (c .before .before .before .loop2 .rest)) (c .before .before .before .loop2 .body) (c .loop3 .at) (c .before .before .before .loop2 .size) (c .before .before .before .loop2 .kept) (c .loop3 .marks) (c .before .before .before .loop2 .since)
-reached c =
-    let i = c .loop3 .inv .0 in
-    (i .0, i .1, i .2, i .3, c .before .before .before .loop2 .inv .4 ∙ i .4, i .5, i .6)
+-- ---- the loops over updates: of those that are written, then of those that are not
 
-abbrev placeAt : (c : AtRun) → c .loop3 .at < length (body (c .before .before .before .before .before)) → Place (c .before .before .before .before .before)
-placeAt c l =
+abbrev AtWritten : Type 0
+AtWritten = tie.At-loop3 Inv-loop3 μ-loop3 Inv-loop4 μ-loop4 Inv-loop2 μ-loop2 Inv-loop μ-loop
+
+abbrev AtRead : Type 0
+AtRead = tie.At-loop4 Inv-loop3 μ-loop3 Inv-loop4 μ-loop4 Inv-loop2 μ-loop2 Inv-loop μ-loop
+
+-- The block, and where the loop over messages was left.
+abbrev turn : AtWritten → tie.At-loop2 Inv-loop3 μ-loop3 Inv-loop4 μ-loop4 Inv-loop2 μ-loop2 Inv-loop μ-loop
+turn c = c .before .before .before
+
+abbrev opening : AtWritten → Opened
+opening c = turn c .before .before
+
+-- A place that they came to from there.
+abbrev placeIn : (c : AtWritten) (records : List Record) (marks : List ℕ) (count at : ℕ)
+    → let k = turn c .loop2 in
+    Reached (opening c) count (held (k .baselines) records (marked (k .since) marks) (k .rest)) (k .body) at (k .size) (k .kept) marks (k .since)
+    → at < length (body (opening c)) → Place (opening c)
+placeIn c records marks count at r l =
+    let k = turn c .loop2 in
     record {
-      baselines = c .before .before .before .loop2 .baselines;
-      records = c .loop3 .records;
-      marks = c .loop3 .marks;
-      since = c .before .before .before .loop2 .since;
-      rest = c .before .before .before .loop2 .rest;
-      filled = c .before .before .before .loop2 .body;
-      count = c .loop3 .messages;
-      at = c .loop3 .at;
-      size = c .before .before .before .loop2 .size;
-      kept = c .before .before .before .loop2 .kept;
-      reached = reached c;
+      baselines = k .baselines;
+      records = records;
+      marks = marks;
+      since = k .since;
+      rest = k .rest;
+      filled = k .body;
+      count = count;
+      at = at;
+      size = k .size;
+      kept = k .kept;
+      reached = r;
       inside = l;
       going = c .before .if3 .left;
     }
 
--- ---- an update in the loop over updates
+reached-written : (c : AtWritten)
+    → let k = turn c .loop2 in
+    let l = c .loop3 in
+    Reached (opening c) (l .messages) (held (k .baselines) (l .records) (marked (k .since) (l .marks)) (k .rest)) (k .body) (l .at) (k .size) (k .kept) (l .marks) (k .since)
+reached-written c =
+    let i = c .loop3 .inv .0 in
+    (i .0, i .1, i .2, i .3, turn c .loop2 .inv .4 ∙ i .4, i .5, i .6)
 
-abbrev AtUpdate : Type 0
-AtUpdate = tie.In-loop3 Inv-loop3 μ-loop3 Inv-loop2 μ-loop2 Inv-loop μ-loop
+reached-read : (c : AtRead)
+    → let k = turn (c .before .before) .loop2 in
+    let l = c .loop4 in
+    Reached (opening (c .before .before)) (l .messages) (held (k .baselines) (l .records) (marked (k .since) (l .marks)) (k .rest)) (k .body) (l .at) (k .size) (k .kept) (l .marks) (k .since)
+reached-read c =
+    let i = c .loop4 .inv .0 in
+    (i .0, i .1, i .2, i .3, reached-written (c .before .before) .4 ∙ i .4, i .5, i .6)
 
-abbrev ran : AtUpdate → Opened
-ran c = c .before .before .before .before .before .before
+-- All bytes that an update could have are there, and the first is in the block.
+there : (c : AtWritten) (at : ℕ) → at < turn c .before .quick-until .result → (at < end (opening c)) × (at + 18 ≤ length (input (blockOf (opening c))))
+there c at t = before-stop (length (input (blockOf (opening c)))) (end (opening c)) _ at (turn c .before .quick-until .ensures) t
 
-loaded : (c : AtUpdate) → (c .before .loop3 .at < end (ran c)) × (c .before .loop3 .at + 18 ≤ length (input (blockOf (ran c))))
-loaded c = before-stop (length (input (blockOf (ran c)))) (end (ran c)) _ (c .before .loop3 .at) (c .before .before .before .before .before .quick-until .ensures) (c .loop3-test .taken)
+abbrev kind : AtWritten → ℕ → ℕ
+kind c at = getD (input (blockOf (opening c))) at 0
 
-in-body : (c : AtUpdate) → c .before .loop3 .at < length (body (ran c))
-in-body c = omega (arith, loaded c, body-long (ran c))
+kind-there : (c : AtWritten) (at : ℕ) → at < end (opening c) → kind c at ≡ getD (body (opening c)) at 0
+kind-there c at l = sym (getD-take (end (opening c)) (input (blockOf (opening c))) at 0 l)
 
-abbrev update : (c : AtUpdate) → Place (ran c)
-update c = placeAt (c .before) (in-body c)
+-- ---- an update that is to be written
 
-abbrev kind : AtUpdate → ℕ
-kind c = getD (input (blockOf (ran c))) (c .before .loop3 .at) 0
+abbrev ToWrite : Type 0
+ToWrite = tie.In-loop3 Inv-loop3 μ-loop3 Inv-loop4 μ-loop4 Inv-loop2 μ-loop2 Inv-loop μ-loop
 
-kind-there : (c : AtUpdate) → kind c ≡ getD (body (ran c)) (c .before .loop3 .at) 0
-kind-there c = sym (getD-take (end (ran c)) (input (blockOf (ran c))) (c .before .loop3 .at) 0 (loaded c .0))
+to-write : (c : ToWrite) → (c .before .loop3 .at < end (opening (c .before))) × (c .before .loop3 .at + 18 ≤ length (input (blockOf (opening (c .before)))))
+to-write c =
+    let o = opening (c .before) in
+    let stop = turn (c .before) .before .quick-until .result in
+    there (c .before) (c .before .loop3 .at) (ltb-true _ _ (and-true (begun (blockOf o) .args .on) (ltb (c .before .loop3 .at) stop) (c .loop3-test .taken) .1))
+
+abbrev writePlace : (c : ToWrite) → Place (opening (c .before))
+writePlace c =
+    let l = c .before .loop3 in
+    placeIn (c .before) (l .records) (l .marks) (l .messages) (l .at) (reached-written (c .before)) (omega (arith, to-write c, body-long (opening (c .before))))
 
 -- Its head and its fields were read, and it ends inside the block.
+abbrev Needed : Type 0
+Needed = tie.After-record Inv-loop3 μ-loop3 Inv-loop4 μ-loop4 Inv-loop2 μ-loop2 Inv-loop μ-loop
+
+abbrev writing : Needed → ToWrite
+writing c = c .before .before .before .before .before .before .before .before .before .before .before
+
+abbrev headWritten : Needed → UpdateHead
+headWritten c = c .before .before .before .before .before .before .before .before .update-head .result
+
+abbrev fieldsWritten : Needed → RecordAt
+fieldsWritten c = c .before .before .before .needed-fields .result
+
+abbrev kindWritten : Needed → ℕ
+kindWritten c = kind (writing c .before) (writing c .before .loop3 .at)
+
+needs-all : (c : Needed) → Loaded (writePlace (writing c)) (kindWritten c) (headWritten c) (fieldsWritten c)
+needs-all c =
+    let f = c .before .before .before .needed-fields in
+    let z = c .before .before .if8 .left in
+    record {
+      there = kind-there (writing c .before) (writing c .before .loop3 .at) (to-write (writing c) .0);
+      large = c .before .before .before .before .before .before .before .before .before .if4 .left;
+      head = c .before .before .before .before .before .before .before .before .update-head .ensures .0;
+      low = c .before .before .before .before .before .before .if6 .left;
+      known = c .before .before .before .before .before .before .before .if5 .left;
+      fields = f .ensures .1 .0 z;
+      next = f .ensures .1 .1 z;
+      flag = f .ensures .0;
+      ends = c .before .if9 .left;
+    }
+
+-- ---- an update that is only read
+
+not-true : (b : Bool) → not b ≡ true → b ≡ false
+not-true true e = absurd (true≢false (sym e))
+not-true false e = refl
+
+abbrev ToRead : Type 0
+ToRead = tie.In-loop4 Inv-loop3 μ-loop3 Inv-loop4 μ-loop4 Inv-loop2 μ-loop2 Inv-loop μ-loop
+
+abbrev behindWritten : ToRead → AtWritten
+behindWritten c = c .before .before .before
+
+to-read : (c : ToRead)
+    → let o = opening (behindWritten c) in
+    (begun (blockOf o) .args .on ≡ false) × (c .before .loop4 .at < end o) × (c .before .loop4 .at + 18 ≤ length (input (blockOf o)))
+to-read c =
+    let on = begun (blockOf (opening (behindWritten c))) .args .on in
+    let t = and-true (not on) (ltb (c .before .loop4 .at) (turn (behindWritten c) .before .quick-until .result)) (c .loop4-test .taken) in
+    let w = there (behindWritten c) (c .before .loop4 .at) (ltb-true _ _ (t .1)) in
+    (not-true on (t .0), w .0, w .1)
+
+abbrev readPlace : (c : ToRead) → Place (opening (behindWritten c))
+readPlace c =
+    let l = c .before .loop4 in
+    placeIn (behindWritten c) (l .records) (l .marks) (l .messages) (l .at) (reached-read (c .before)) (omega (arith, to-read c .1, body-long (opening (behindWritten c))))
+
 abbrev Found : Type 0
-Found = tie.After-record Inv-loop3 μ-loop3 Inv-loop2 μ-loop2 Inv-loop μ-loop
+Found = tie.After-record2 Inv-loop3 μ-loop3 Inv-loop4 μ-loop4 Inv-loop2 μ-loop2 Inv-loop μ-loop
 
-abbrev updateOf : Found → AtUpdate
-updateOf c = c .before .before .before .before .before .before .before .before .before
+abbrev reading : Found → ToRead
+reading c = c .before .before .before .before .before .before .before .before .before
 
-abbrev headOf : Found → UpdateHead
-headOf c = c .before .before .before .before .before .before .update-head .result
+abbrev headRead : Found → UpdateHead
+headRead c = c .before .before .before .before .before .before .update-head2 .result
 
-abbrev fieldsOf : Found → RecordAt
-fieldsOf c = c .before .before .update-fields .result
+abbrev fieldsRead : Found → RecordAt
+fieldsRead c = c .before .before .update-fields .result
 
-found : (c : Found) → Loaded (update (updateOf c)) (kind (updateOf c)) (headOf c) (fieldsOf c)
+abbrev kindRead : Found → ℕ
+kindRead c = kind (behindWritten (reading c)) (reading c .before .loop4 .at)
+
+found : (c : Found) → Loaded (readPlace (reading c)) (kindRead c) (headRead c) (fieldsRead c)
 found c =
     let f = c .before .before .update-fields in
     record {
-      there = kind-there (updateOf c);
-      large = c .before .before .before .before .before .before .before .if4 .left;
-      head = c .before .before .before .before .before .before .update-head .ensures .0;
-      low = c .before .before .before .before .if6 .left;
-      known = c .before .before .before .before .before .if5 .left;
+      there = kind-there (behindWritten (reading c)) (reading c .before .loop4 .at) (to-read (reading c) .1);
+      large = c .before .before .before .before .before .before .before .if10 .left;
+      head = c .before .before .before .before .before .before .update-head2 .ensures .0;
+      low = c .before .before .before .before .if12 .left;
+      known = c .before .before .before .before .before .if11 .left;
       fields = f .ensures .0;
       next = f .ensures .1 .0;
       flag = f .ensures .1 .1;
-      ends = c .before .if7 .left;
+      ends = c .before .if13 .left;
     }
-
-moves : (c : Found) → updateOf c .before .loop3 .at < fieldsOf c .next
-moves c =
-    let p = update (updateOf c) in
-    omega (arith, less p _ (fieldsOf c .next) _ (at-quick p (kind (updateOf c)) (headOf c) (fieldsOf c) (found c)))
-
--- It stays as it was read: where it is written, nothing was sent needlessly.
-step-once : (c : tie.Else8 Inv-loop3 μ-loop3 Inv-loop2 μ-loop2 Inv-loop μ-loop)
-    → let r = c .before .before .before in
-    let p = update (updateOf r) in
-    Step p (updated p (kind (updateOf r)) (headOf r) (fieldsOf r) (found r) (fieldsOf r .next)) (fieldsOf r .next) (p .filled) (p .size) (p .kept)
-step-once c =
-    let r = c .before .before .before in
-    let p = update (updateOf r) in
-    kept-step p _ (fieldsOf r .next) _ (loaded-moved p (kind (updateOf r)) (headOf r) (fieldsOf r) (found r) (fieldsOf r .next) (omega (arith, moves r)) (omega arith))
-    (λ on.
-    let n = or-false (fieldsOf r .needless) (headOf r .needless) (and-false _ _ on (c .if8 .left)) in
-    loaded-kept p (kind (updateOf r)) (headOf r) (fieldsOf r) (found r) (n .0) (n .1))
 
 -- ---- where another message is to be read
 
 abbrev AtMessage : Type 0
-AtMessage = tie.Else9 Inv-loop3 μ-loop3 Inv-loop2 μ-loop2 Inv-loop μ-loop
+AtMessage = tie.Else14 Inv-loop3 μ-loop3 Inv-loop4 μ-loop4 Inv-loop2 μ-loop2 Inv-loop μ-loop
 
 abbrev inBlock : AtMessage → Opened
-inBlock c = c .before .before .before .before .before .before .before
+inBlock c = opening (c .before .before .before .before)
 
 abbrev message : (c : AtMessage) → Place (inBlock c)
-message c = placeAt (c .before .before) (c .if9 .left)
+message c =
+    let l = c .before .before .loop4 in
+    placeIn (c .before .before .before .before) (l .records) (l .marks) (l .messages) (l .at) (reached-read (c .before .before)) (c .if14 .left)
 
-sound-parsed : (c : tie.After-sound-at Inv-loop3 μ-loop3 Inv-loop2 μ-loop2 Inv-loop μ-loop) → Parsed (message (c .before .before .before)) (number Kind.sound ∷ soundValues (c .sound-at .result .heard)) (c .sound-at .result .cursor)
+-- It lies no further back than where the turn began.
+ahead : (c : AtMessage) → turn (c .before .before .before .before) .loop2 .at ≤ message c .at
+ahead c = omega (arith, c .before .before .loop4 .inv .1, c .before .before .before .before .loop3 .inv .1)
+
+sound-parsed : (c : tie.After-sound-at Inv-loop3 μ-loop3 Inv-loop4 μ-loop4 Inv-loop2 μ-loop2 Inv-loop μ-loop) → Parsed (message (c .before .before .before)) (number Kind.sound ∷ soundValues (c .sound-at .result .heard)) (c .sound-at .result .cursor)
 sound-parsed c =
     let x = contextOf (scene (message (c .before .before .before))) in
     kind-here (message (c .before .before .before)) Kind.sound x _ (c .sound-at .result .cursor) (sym (c .before .match .keys1)) refl (λ z. omega arith) refl (c .sound-at .ensures x)
 
-time-parsed : (c : tie.After-time-at Inv-loop3 μ-loop3 Inv-loop2 μ-loop2 Inv-loop μ-loop) → Parsed (message (c .before .before .before .before)) (number 7 ∷ number (c .time-at .result .value) ∷ []) (c .time-at .result .cursor)
+time-parsed : (c : tie.After-time-at Inv-loop3 μ-loop3 Inv-loop4 μ-loop4 Inv-loop2 μ-loop2 Inv-loop μ-loop) → Parsed (message (c .before .before .before .before)) (number 7 ∷ number (c .time-at .result .value) ∷ []) (c .time-at .result .cursor)
 time-parsed c =
     kind-here (message (c .before .before .before .before)) 7 _ _ (c .time-at .result .cursor) (sym (c .before .before .match .keys2)) refl (λ z. omega arith)
     (c .before .context .ensures _ _ _) (c .time-at .ensures)
 
-client-here : (c : tie.After-client-at Inv-loop3 μ-loop3 Inv-loop2 μ-loop2 Inv-loop μ-loop)
+client-here : (c : tie.After-client-at Inv-loop3 μ-loop3 Inv-loop4 μ-loop4 Inv-loop2 μ-loop2 Inv-loop μ-loop)
     → let p = message (c .before .before .before) in
     ClientRead (body (inBlock (c .before .before .before))) (p .at + 1) (contextOf (scene p)) (c .client-at .result .client) (c .client-at .result .cursor)
 client-here c =
     let p = message (c .before .before .before) in
     client-read (body (inBlock (c .before .before .before))) (p .at + 1) (contextOf (scene p)) (c .client-at .result .client) (c .client-at .result .cursor) (c .client-at .ensures .0 (contextOf (scene p)))
 
-client-parsed : (c : tie.After-client-at Inv-loop3 μ-loop3 Inv-loop2 μ-loop2 Inv-loop μ-loop) → Parsed (message (c .before .before .before)) (number 15 ∷ client-here c .sent) (c .client-at .result .cursor)
+client-parsed : (c : tie.After-client-at Inv-loop3 μ-loop3 Inv-loop4 μ-loop4 Inv-loop2 μ-loop2 Inv-loop μ-loop) → Parsed (message (c .before .before .before)) (number 15 ∷ client-here c .sent) (c .client-at .result .cursor)
 client-parsed c =
     kind-here (message (c .before .before .before)) 15 (contextOf (scene (message (c .before .before .before)))) _ (c .client-at .result .cursor) (sym (c .before .match .keys3)) refl (λ z. omega arith) refl (client-here c .read)
 
 -- Where nothing was sent needlessly, it is its own normal form.
-client-again : (c : tie.After-client-at Inv-loop3 μ-loop3 Inv-loop2 μ-loop2 Inv-loop μ-loop) → c .client-at .result .needless ≡ false
+client-again : (c : tie.After-client-at Inv-loop3 μ-loop3 Inv-loop4 μ-loop4 Inv-loop2 μ-loop2 Inv-loop μ-loop) → c .client-at .result .needless ≡ false
     → Parsed (message (c .before .before .before)) (sendClient (clientValues (c .client-at .result .client))) (c .client-at .result .cursor)
 client-again c e =
     let x = contextOf (scene (message (c .before .before .before))) in
     kind-here (message (c .before .before .before)) 15 x _ (c .client-at .result .cursor) (sym (c .before .match .keys3)) refl (λ z. omega arith) refl (c .client-at .ensures .1 x e)
 
-other-read : (c : tie.After-read-message Inv-loop3 μ-loop3 Inv-loop2 μ-loop2 Inv-loop μ-loop) → Parsed (message (c .before .before .before .before .before .before .before)) (valuesOf (body (inBlock (c .before .before .before .before .before .before .before))) (c .read-message .result .message)) (c .read-message .result .cursor)
+other-read : (c : tie.After-read-message Inv-loop3 μ-loop3 Inv-loop4 μ-loop4 Inv-loop2 μ-loop2 Inv-loop μ-loop) → Parsed (message (c .before .before .before .before .before .before .before)) (valuesOf (body (inBlock (c .before .before .before .before .before .before .before))) (c .read-message .result .message)) (c .read-message .result .cursor)
 other-read c =
     let p = message (c .before .before .before .before .before .before .before) in
     let o = inBlock (c .before .before .before .before .before .before .before) in
     other-parsed (body o) (p .at) (p .inside) (p .baselines) (p .records) (present p) (p .rest) (p .going) (body-bytes o) _
     (c .before .context3 .ensures _ _ _) (c .read-message .result .message) (c .read-message .result .cursor) (c .read-message .ensures)
 
-update-read : (c : tie.After-read-update Inv-loop3 μ-loop3 Inv-loop2 μ-loop2 Inv-loop μ-loop) → Parsed (message (c .before .before .before .before .before)) (updateValues (c .read-update .result .update)) (c .read-update .result .cursor)
+update-read : (c : tie.After-read-update Inv-loop3 μ-loop3 Inv-loop4 μ-loop4 Inv-loop2 μ-loop2 Inv-loop μ-loop) → Parsed (message (c .before .before .before .before .before)) (updateValues (c .read-update .result .update)) (c .read-update .result .cursor)
 update-read c =
     let p = message (c .before .before .before .before .before) in
     let o = inBlock (c .before .before .before .before .before) in
-    update-parsed (body o) (p .at) (p .inside) (p .baselines) (p .records) (present p) (p .rest) (p .going) (body-bytes o) _ refl (c .before .before .if13 .left)
+    update-parsed (body o) (p .at) (p .inside) (p .baselines) (p .records) (present p) (p .rest) (p .going) (body-bytes o) _ refl (c .before .before .if18 .left)
     (c .read-update .result .update) (c .read-update .result .cursor) (c .read-update .ensures)
 
 -- The entity of a baseline, and of an update, is known.
-baseline-index : (c : tie.After-message Inv-loop3 μ-loop3 Inv-loop2 μ-loop2 Inv-loop μ-loop) → c .message .given .0 .0 .0 < 449
+baseline-index : (c : tie.After-message Inv-loop3 μ-loop3 Inv-loop4 μ-loop4 Inv-loop2 μ-loop2 Inv-loop μ-loop) → c .message .given .0 .0 .0 < 449
 baseline-index c =
     let r = c .before .before .before .before in
     let o = inBlock (r .before .before .before .before .before .before .before) in
     let p = message (r .before .before .before .before .before .before .before) in
     baseline-known (body o) (p .at) (p .inside) (p .baselines) (p .records) (present p) (p .rest) (p .going) (body-bytes o) _
-    (r .before .context3 .ensures _ _ _) (r .read-message .result .message) (r .read-message .result .cursor) (r .read-message .ensures) (c .before .before .if16 .left) _ _ _
+    (r .before .context3 .ensures _ _ _) (r .read-message .result .message) (r .read-message .result .cursor) (r .read-message .ensures) (c .before .before .if21 .left) _ _ _
     (c .message .given .1)
 
-update-index : (c : tie.Else20 Inv-loop3 μ-loop3 Inv-loop2 μ-loop2 Inv-loop μ-loop) → c .before .before .read-update .result .update .entity .0 < 449
+update-index : (c : tie.Else25 Inv-loop3 μ-loop3 Inv-loop4 μ-loop4 Inv-loop2 μ-loop2 Inv-loop μ-loop) → c .before .before .read-update .result .update .entity .0 < 449
 update-index c =
     let r = c .before .before in
     let o = inBlock (r .before .before .before .before .before) in
     let p = message (r .before .before .before .before .before) in
-    update-known (body o) (p .at) (p .inside) (p .baselines) (p .records) (present p) (p .rest) (p .going) (body-bytes o) _ refl (r .before .before .if13 .left)
-    (r .read-update .result .update) (r .read-update .result .cursor) (r .read-update .ensures) (c .if20 .left)
+    update-known (body o) (p .at) (p .inside) (p .baselines) (p .records) (present p) (p .rest) (p .going) (body-bytes o) _ refl (r .before .before .if18 .left)
+    (r .read-update .result .update) (r .read-update .result .cursor) (r .read-update .ensures) (c .if25 .left)
 
 -- A message that is passed.
 abbrev Passing : Type 0
-Passing = tie.After-pass-message Inv-loop3 μ-loop3 Inv-loop2 μ-loop2 Inv-loop μ-loop
+Passing = tie.After-pass-message Inv-loop3 μ-loop3 Inv-loop4 μ-loop4 Inv-loop2 μ-loop2 Inv-loop μ-loop
 
 abbrev passedAt : (c : Passing) → Place (inBlock (c .before .before .before .before .before .before .before))
 passedAt c = message (c .before .before .before .before .before .before .before)
@@ -582,8 +678,8 @@ passedAt c = message (c .before .before .before .before .before .before .before)
 abbrev passedKind : Passing → ℕ
 passedKind c = getD (body (inBlock (c .before .before .before .before .before .before .before))) (passedAt c .at) 0
 
-passes : (c : tie.Then14 Inv-loop3 μ-loop3 Inv-loop2 μ-loop2 Inv-loop μ-loop) → isPassed (getD (body (inBlock (c .before .before .before .before .before))) (message (c .before .before .before .before .before) .at) 0) ≡ true
-passes c = sym (c .before .is-passed .ensures) ∙ c .if14 .taken
+passes : (c : tie.Then19 Inv-loop3 μ-loop3 Inv-loop4 μ-loop4 Inv-loop2 μ-loop2 Inv-loop μ-loop) → isPassed (getD (body (inBlock (c .before .before .before .before .before))) (message (c .before .before .before .before .before) .at) 0) ≡ true
+passes c = sym (c .before .is-passed .ensures) ∙ c .if19 .taken
 
 passed-here : (c : Passing) → Passed (body (inBlock (c .before .before .before .before .before .before .before))) (here (passedAt c .at + 1)) (numbersOf (c .before .context2 .result)) (passedKind c) (c .pass-message .result)
 passed-here c = passed-read (body (inBlock (c .before .before .before .before .before .before .before))) (here (passedAt c .at + 1)) _ (passedKind c) (c .pass-message .result) (c .pass-message .ensures)
@@ -594,7 +690,7 @@ pass-parsed c =
     passed-parsed (body (inBlock (c .before .before .before .before .before .before .before))) (p .at) (p .inside) (p .baselines) (p .records) (present p) (p .rest) (p .going) (passedKind c) (passes (c .before .before)) refl _
     (c .before .context2 .ensures _ _ _) (passed-here c .values) (c .pass-message .result) (passed-here c .read)
 
-pass-step : (c : tie.Else15 Inv-loop3 μ-loop3 Inv-loop2 μ-loop2 Inv-loop μ-loop)
+pass-step : (c : tie.Else20 Inv-loop3 μ-loop3 Inv-loop4 μ-loop4 Inv-loop2 μ-loop2 Inv-loop μ-loop)
     → let p = passedAt (c .before) in
     Step p (scene p) (c .before .pass-message .result .at) (p .filled) (p .size) (p .kept)
 pass-step c =
@@ -603,11 +699,11 @@ pass-step c =
     let o = inBlock (r .before .before .before .before .before .before .before) in
     kept-step p (scene p) (r .pass-message .result .at) _
     (passed-moved (body o) (p .at) (p .inside) (p .baselines) (p .records) (present p) (p .rest) (p .going) (body-bytes o) (passedKind r) (passes (r .before .before))
-    (passed-here r .values) (r .pass-message .result) (pass-parsed r) (c .if15 .left)) (λ on. refl)
+    (passed-here r .values) (r .pass-message .result) (pass-parsed r) (c .if20 .left)) (λ on. refl)
 
 -- An update that is to be put anew was loaded again.
 abbrev Again : Type 0
-Again = tie.After-record2 Inv-loop3 μ-loop3 Inv-loop2 μ-loop2 Inv-loop μ-loop
+Again = tie.After-record3 Inv-loop3 μ-loop3 Inv-loop4 μ-loop4 Inv-loop2 μ-loop2 Inv-loop μ-loop
 
 abbrev placeOf : (c : Again) → Place (inBlock (c .before .before .before .before .before .before .before .before .before .before))
 placeOf c = message (c .before .before .before .before .before .before .before .before .before .before)
@@ -616,25 +712,25 @@ abbrev kindOf : Again → ℕ
 kindOf c = getD (body (inBlock (c .before .before .before .before .before .before .before .before .before .before))) (placeOf c .at) 0
 
 abbrev headAgain : Again → UpdateHead
-headAgain c = c .before .before .before .before .before .update-head2 .result
+headAgain c = c .before .before .before .before .before .update-head3 .result
 
 abbrev fieldsAgain : Again → RecordAt
 fieldsAgain c = c .before .before .update-fields2 .result
 
 -- It is to be written, and all bytes that it could have are there.
-to-load : (c : tie.Then17 Inv-loop3 μ-loop3 Inv-loop2 μ-loop2 Inv-loop μ-loop)
+to-load : (c : tie.Then22 Inv-loop3 μ-loop3 Inv-loop4 μ-loop4 Inv-loop2 μ-loop2 Inv-loop μ-loop)
     → let m = c .before .before .before .before in
     (begun (blockOf (inBlock m)) .args .on ≡ true) × (message m .at + 18 ≤ length (input (blockOf (inBlock m))))
 to-load c =
     let m = c .before .before .before .before in
     let o = inBlock m in
-    let t = and-true _ _ (c .if17 .taken) in
-    (t .0, before-stop (length (input (blockOf o))) (end o) _ (message m .at) (m .before .before .before .before .before .before .quick-until .ensures) (ltb-true _ _ (t .1)) .1)
+    let t = and-true _ _ (c .if22 .taken) in
+    (t .0, before-stop (length (input (blockOf o))) (end o) _ (message m .at) (m .before .before .before .before .before .before .before .before .quick-until .ensures) (ltb-true _ _ (t .1)) .1)
 
 -- Its entity and its mask were tested.
-tested : (c : tie.Then18 Inv-loop3 μ-loop3 Inv-loop2 μ-loop2 Inv-loop μ-loop) → (c .before .update-head2 .result .entity < 449) × (c .before .update-head2 .result .mask < 32768)
+tested : (c : tie.Then23 Inv-loop3 μ-loop3 Inv-loop4 μ-loop4 Inv-loop2 μ-loop2 Inv-loop μ-loop) → (c .before .update-head3 .result .entity < 449) × (c .before .update-head3 .result .mask < 32768)
 tested c =
-    let t = and-true _ _ (c .if18 .taken) in
+    let t = and-true _ _ (c .if23 .taken) in
     (ltb-true _ _ (t .0), ltb-true _ _ (t .1))
 
 again : (c : Again) → Loaded (placeOf c) (kindOf c) (headAgain c) (fieldsAgain c)
@@ -642,21 +738,21 @@ again c =
     let f = c .before .before .update-fields2 in
     record {
       there = refl;
-      large = c .before .before .before .before .before .before .before .if13 .left;
-      head = c .before .before .before .before .before .update-head2 .ensures .0;
+      large = c .before .before .before .before .before .before .before .if18 .left;
+      head = c .before .before .before .before .before .update-head3 .ensures .0;
       low = tested (c .before .before .before .before) .1;
       known = tested (c .before .before .before .before) .0;
       fields = f .ensures .0;
       next = f .ensures .1 .0;
       flag = f .ensures .1 .1;
-      ends = c .before .if19 .taken;
+      ends = c .before .if24 .taken;
     }
 
 moves-again : (c : Again) → placeOf c .at < fieldsAgain c .next
-moves-again c = omega (arith, less (placeOf c) _ (fieldsAgain c .next) _ (at-quick (placeOf c) (kindOf c) (headAgain c) (fieldsAgain c) (again c)))
+moves-again c = loaded-less (placeOf c) (kindOf c) (headAgain c) (fieldsAgain c) (again c)
 
 abbrev Anew : Type 0
-Anew = tie.After-body6 Inv-loop3 μ-loop3 Inv-loop2 μ-loop2 Inv-loop μ-loop
+Anew = tie.After-body6 Inv-loop3 μ-loop3 Inv-loop4 μ-loop4 Inv-loop2 μ-loop2 Inv-loop μ-loop
 
 again-step : (c : Anew)
     → let r = c .before .before .before in
@@ -672,7 +768,7 @@ again-step c =
 -- ---- where the arms meet
 
 abbrev AtNext : Type 0
-AtNext = tie.At-match-came Inv-loop3 μ-loop3 Inv-loop2 μ-loop2 Inv-loop μ-loop
+AtNext = tie.At-match-came Inv-loop3 μ-loop3 Inv-loop4 μ-loop4 Inv-loop2 μ-loop2 Inv-loop μ-loop
 
 abbrev next : AtNext → Scene
 next c = held (c .match .baselines) (c .match .records) (marked (c .match .since) (c .match .marks)) (c .match .rest)
@@ -741,7 +837,7 @@ came c =
     (time-parsed (record { before = record { before = record { before = c .before; match = w .0 }; context = w .1 }; time-at = w .2 })) (w .4 .left)))
     (⊎-elim
     (λ w.
-    let r : tie.After-client-at Inv-loop3 μ-loop3 Inv-loop2 μ-loop2 Inv-loop μ-loop = record { before = record { before = c .before; match = w .0 }; client-at = w .1 } in
+    let r : tie.After-client-at Inv-loop3 μ-loop3 Inv-loop4 μ-loop4 Inv-loop2 μ-loop2 Inv-loop μ-loop = record { before = record { before = c .before; match = w .0 }; client-at = w .1 } in
     stays c (k .baselines) (k .records) (w .9 .result) _ (w .1 .result .cursor .at) (w .7 .result .size) (w .7 .result .kept) (w .10) (w .11) (w .12) (w .13) (w .14) (w .15) (w .16) (w .17) (w .18)
     (behind-step k _ (w .1 .result .cursor .at) _
     (client-moved s (k .at) l (k .baselines) (k .records) (present k) (k .rest) g _ (w .1 .result .client) (w .9 .result) (w .1 .result .cursor) (client-parsed r) (w .3 .left) (client-here r .filled (w .3 .left)) (w .9 .ensures))
@@ -778,9 +874,9 @@ came c =
 
 -- Input that was kept to the end is copied.
 abbrev Copied : Type 0
-Copied = tie.After-put-copy Inv-loop3 μ-loop3 Inv-loop2 μ-loop2 Inv-loop μ-loop
+Copied = tie.After-put-copy Inv-loop3 μ-loop3 Inv-loop4 μ-loop4 Inv-loop2 μ-loop2 Inv-loop μ-loop
 
-abbrev left : Copied → tie.At-loop2 Inv-loop3 μ-loop3 Inv-loop2 μ-loop2 Inv-loop μ-loop
+abbrev left : Copied → tie.At-loop2 Inv-loop3 μ-loop3 Inv-loop4 μ-loop4 Inv-loop2 μ-loop2 Inv-loop μ-loop
 left c = c .before .before .before
 
 abbrev sizeOf : Copied → ℕ
@@ -803,7 +899,7 @@ body-size : (c : Copied) → length (take (sizeOf c) (filledOf c)) ≡ sizeOf c
 body-size c = length-take-le (sizeOf c) (filledOf c) (omega (arith, fits c))
 
 abbrev AtEnd : Type 0
-AtEnd = tie.After-block-size Inv-loop3 μ-loop3 Inv-loop2 μ-loop2 Inv-loop μ-loop
+AtEnd = tie.After-block-size Inv-loop3 μ-loop3 Inv-loop4 μ-loop4 Inv-loop2 μ-loop2 Inv-loop μ-loop
 
 abbrev copying : AtEnd → Copied
 copying c = c .before .before
@@ -842,7 +938,7 @@ ended c =
     ∙ ap (λ (x : List ℕ). closed (sceneOf (a .given)) (input (blockOf o)) (a .on) (stores (blockOf o)) (a .room) (a .base) (l .blocks) (a .most - l .blocks - 1) (l .start) (end o) (angles o) (l .written) (l .out) (k .messages) (after c) (blockBytes (a .on) (angles o) x)) (sym (copying c .put-copy .ensures .0))
 
 -- The room is short for it.
-short : (c : tie.Then21 Inv-loop3 μ-loop3 Inv-loop2 μ-loop2 Inv-loop μ-loop) (r : WrittenAt) → Refuses (closing (c .before)) 12 (c .before .block-size .result) r → Answered (closing (c .before)) r
+short : (c : tie.Then26 Inv-loop3 μ-loop3 Inv-loop4 μ-loop4 Inv-loop2 μ-loop2 Inv-loop μ-loop) (r : WrittenAt) → Refuses (closing (c .before)) 12 (c .before .block-size .result) r → Answered (closing (c .before)) r
 short c =
     let e = c .before in
     let o = closing e in
@@ -851,10 +947,10 @@ short c =
     refuse o 12 (e .block-size .result)
     (sym (ended e
     ∙ closed-short (sceneOf (a .given)) (input (blockOf o)) (a .on) (stores (blockOf o)) (a .room) (a .base) (l .blocks) _ (l .start) (end o) (angles o) (l .written) (l .out)
-    (left (copying e) .loop2 .messages) (after e) (formed e) (e .block-size .result) (formed-size e) (c .if21 .taken)))
+    (left (copying e) .loop2 .messages) (after e) (formed e) (e .block-size .result) (formed-size e) (c .if26 .taken)))
 
 -- There is room for it.
-goes-on : (c : tie.Else21 Inv-loop3 μ-loop3 Inv-loop2 μ-loop2 Inv-loop μ-loop)
+goes-on : (c : tie.Else26 Inv-loop3 μ-loop3 Inv-loop4 μ-loop4 Inv-loop2 μ-loop2 Inv-loop μ-loop)
     → let e = c .before in
     let o = closing e in
     let a = begun (blockOf o) .args in
@@ -870,9 +966,9 @@ goes-on c =
     let l = blockOf o .before .loop in
     ended e
     ∙ closed-fits (sceneOf (a .given)) (input (blockOf o)) (a .on) (stores (blockOf o)) (a .room) (a .base) (l .blocks) _ (l .start) (end o) (angles o) (l .written) (l .out)
-    (left (copying e) .loop2 .messages) (after e) (formed e) (e .block-size .result) (formed-size e) (c .if21 .left)
+    (left (copying e) .loop2 .messages) (after e) (formed e) (e .block-size .result) (formed-size e) (c .if26 .left)
 
-room-there : (c : tie.Else21 Inv-loop3 μ-loop3 Inv-loop2 μ-loop2 Inv-loop μ-loop)
+room-there : (c : tie.Else26 Inv-loop3 μ-loop3 Inv-loop4 μ-loop4 Inv-loop2 μ-loop2 Inv-loop μ-loop)
     → let a = begun (blockOf (closing (c .before))) .args in
     let l = blockOf (closing (c .before)) .before .loop in
     (a .on && stored (a .out .now) (a .base) (a .room)) ≡ true → a .base + l .written + 16 + sizeOf (copying (c .before)) ≤ length (l .out)
@@ -882,11 +978,11 @@ room-there c e =
     let l = blockOf (closing (c .before)) .before .loop in
     let b = and-true (a .on) (stored (a .out .now) (a .base) (a .room)) e in
     let n : c .before .block-size .result ≡ 16 + sizeOf (copying (c .before)) = c .before .block-size .ensures ∙ ap (λ (x : Bool). cond x (16 + sizeOf (copying (c .before))) 0) (b .0) in
-    omega (arith, n, c .if21 .left, leb-true (a .room) (length (a .out .now) - a .base) (b .1), l .inv .5, l .inv .6, s .pre .2)
+    omega (arith, n, c .if26 .left, leb-true (a .room) (length (a .out .now) - a .base) (b .1), l .inv .5, l .inv .6, s .pre .2)
 
 -- What the room holds then.
 abbrev AtStored : Type 0
-AtStored = tie.After-store-block Inv-loop3 μ-loop3 Inv-loop2 μ-loop2 Inv-loop μ-loop
+AtStored = tie.After-store-block Inv-loop3 μ-loop3 Inv-loop4 μ-loop4 Inv-loop2 μ-loop2 Inv-loop μ-loop
 
 abbrev ending : AtStored → AtEnd
 ending c = c .before .before .before .before
@@ -918,13 +1014,13 @@ kept-length c x e =
 
 -- ---- what is asked on the way, in the order of the code
 
-sub-stores : tie.Need-sub-stores Inv-loop3 μ-loop3 Inv-loop2 μ-loop2 Inv-loop μ-loop
+sub-stores : tie.Need-sub-stores Inv-loop3 μ-loop3 Inv-loop4 μ-loop4 Inv-loop2 μ-loop2 Inv-loop μ-loop
 sub-stores c = c .before .before .before .before .before .before .before .pre .2
 
-marks-of-requires : tie.Need-marks-of-requires Inv-loop3 μ-loop3 Inv-loop2 μ-loop2 Inv-loop μ-loop
+marks-of-requires : tie.Need-marks-of-requires Inv-loop3 μ-loop3 Inv-loop4 μ-loop4 Inv-loop2 μ-loop2 Inv-loop μ-loop
 marks-of-requires c κs = search needs
 
-loop-holds : tie.Need-loop-holds Inv-loop3 μ-loop3 Inv-loop2 μ-loop2 Inv-loop μ-loop
+loop-holds : tie.Need-loop-holds Inv-loop3 μ-loop3 Inv-loop4 μ-loop4 Inv-loop2 μ-loop2 Inv-loop μ-loop
 loop-holds c =
     let a = c .before .before .before .before .before .before .before .args in
     let g = c .before .marks-of in
@@ -946,22 +1042,22 @@ loop-holds c =
       (λ i. wroteOf (sceneOf given) (length (a .d .now)) (stored (a .out .now) (a .base) (a .room)) (a .base) 0 0 0 (a .out .now) (runOf (a .on) (n i) (r i) (same i) (drop (a .from) (a .d .now)))),
     )
 
-read-head-requires : tie.Need-read-head-requires Inv-loop3 μ-loop3 Inv-loop2 μ-loop2 Inv-loop μ-loop
+read-head-requires : tie.Need-read-head-requires Inv-loop3 μ-loop3 Inv-loop4 μ-loop4 Inv-loop2 μ-loop2 Inv-loop μ-loop
 read-head-requires c κs = search needs
 
-add-at : tie.Need-add-at Inv-loop3 μ-loop3 Inv-loop2 μ-loop2 Inv-loop μ-loop
+add-at : tie.Need-add-at Inv-loop3 μ-loop3 Inv-loop4 μ-loop4 Inv-loop2 μ-loop2 Inv-loop μ-loop
 add-at c = omega (arith, c .before .read-head .ensures .1 .0 (c .if2 .left))
 
-add-end : tie.Need-add-end Inv-loop3 μ-loop3 Inv-loop2 μ-loop2 Inv-loop μ-loop
+add-end : tie.Need-add-end Inv-loop3 μ-loop3 Inv-loop4 μ-loop4 Inv-loop2 μ-loop2 Inv-loop μ-loop
 add-end c = omega (arith, c .before .before .read-head .ensures .1 .0 (c .before .if2 .left))
 
-slice-aggregate-s : tie.Need-slice-aggregate-s Inv-loop3 μ-loop3 Inv-loop2 μ-loop2 Inv-loop μ-loop
+slice-aggregate-s : tie.Need-slice-aggregate-s Inv-loop3 μ-loop3 Inv-loop4 μ-loop4 Inv-loop2 μ-loop2 Inv-loop μ-loop
 slice-aggregate-s c = sym (body-long c)
 
-quick-until-requires : tie.Need-quick-until-requires Inv-loop3 μ-loop3 Inv-loop2 μ-loop2 Inv-loop μ-loop
+quick-until-requires : tie.Need-quick-until-requires Inv-loop3 μ-loop3 Inv-loop4 μ-loop4 Inv-loop2 μ-loop2 Inv-loop μ-loop
 quick-until-requires c κs = search needs
 
-loop2-holds : tie.Need-loop2-holds Inv-loop3 μ-loop3 Inv-loop2 μ-loop2 Inv-loop μ-loop
+loop2-holds : tie.Need-loop2-holds Inv-loop3 μ-loop3 Inv-loop4 μ-loop4 Inv-loop2 μ-loop2 Inv-loop μ-loop
 loop2-holds c =
     let o = c .before in
     let l = blockOf o .before .loop in (
@@ -979,13 +1075,13 @@ loop2-holds c =
       },
     )
 
-refused-in-requires : tie.Need-refused-in-requires Inv-loop3 μ-loop3 Inv-loop2 μ-loop2 Inv-loop μ-loop
+refused-in-requires : tie.Need-refused-in-requires Inv-loop3 μ-loop3 Inv-loop4 μ-loop4 Inv-loop2 μ-loop2 Inv-loop μ-loop
 refused-in-requires c κs = search needs
 
-same-length : tie.Need-same-length Inv-loop3 μ-loop3 Inv-loop2 μ-loop2 Inv-loop μ-loop
+same-length : tie.Need-same-length Inv-loop3 μ-loop3 Inv-loop4 μ-loop4 Inv-loop2 μ-loop2 Inv-loop μ-loop
 same-length c = c .before .before .before .before .before .before .before .before .before .before .before .loop .inv .6
 
-returns : tie.Need-returns Inv-loop3 μ-loop3 Inv-loop2 μ-loop2 Inv-loop μ-loop
+returns : tie.Need-returns Inv-loop3 μ-loop3 Inv-loop4 μ-loop4 Inv-loop2 μ-loop2 Inv-loop μ-loop
 returns c =
     let m = c .before .before in
     let o = m .before .before .before in
@@ -993,343 +1089,388 @@ returns c =
     refuse-message o (k .messages) (held (k .baselines) (k .records) (marked (k .since) (k .marks)) (k .rest)) (k .body) (k .at) (k .size) (k .kept) (k .marks) (k .since) (k .inv) (m .loop2-test .taken) 11
     (ended-refused (body o) (k .at) (m .loop2-test .taken) (k .baselines) (k .records) (marked (k .since) (k .marks)) (k .rest) (c .before .if3 .taken)) (c .refused-in .result) (c .refused-in .ensures)
 
-loop3-holds : tie.Need-loop3-holds Inv-loop3 μ-loop3 Inv-loop2 μ-loop2 Inv-loop μ-loop
+loop3-holds : tie.Need-loop3-holds Inv-loop3 μ-loop3 Inv-loop4 μ-loop4 Inv-loop2 μ-loop2 Inv-loop μ-loop
 loop3-holds c =
     let i = c .before .before .loop2 .inv in
     ((i .0, i .1, i .2, i .3, refl, i .5, i .6), omega arith)
 
-shared-slice-read-k : tie.Need-shared-slice-read-k Inv-loop3 μ-loop3 Inv-loop2 μ-loop2 Inv-loop μ-loop
-shared-slice-read-k c = omega (arith, loaded (c .before))
+shared-slice-read-k : tie.Need-shared-slice-read-k Inv-loop3 μ-loop3 Inv-loop4 μ-loop4 Inv-loop2 μ-loop2 Inv-loop μ-loop
+shared-slice-read-k c = omega (arith, to-write (c .before))
 
-add-update-head : tie.Need-add-update-head Inv-loop3 μ-loop3 Inv-loop2 μ-loop2 Inv-loop μ-loop
-add-update-head c = place-fits (update (c .before .before))
+add-update-head : tie.Need-add-update-head Inv-loop3 μ-loop3 Inv-loop4 μ-loop4 Inv-loop2 μ-loop2 Inv-loop μ-loop
+add-update-head c = place-fits (writePlace (c .before .before))
 
-update-head-requires : tie.Need-update-head-requires Inv-loop3 μ-loop3 Inv-loop2 μ-loop2 Inv-loop μ-loop
-update-head-requires c κs = omega (arith, loaded (c .before .before))
+update-head-requires : tie.Need-update-head-requires Inv-loop3 μ-loop3 Inv-loop4 μ-loop4 Inv-loop2 μ-loop2 Inv-loop μ-loop
+update-head-requires c κs = omega (arith, to-write (c .before .before))
 
-mul-b : tie.Need-mul-b Inv-loop3 μ-loop3 Inv-loop2 μ-loop2 Inv-loop μ-loop
-mul-b c = omega (arith, c .before .if5 .left)
+mul-b : tie.Need-mul-b Inv-loop3 μ-loop3 Inv-loop4 μ-loop4 Inv-loop2 μ-loop2 Inv-loop μ-loop
+mul-b c = omega (arith, c .before .before .if5 .left)
 
-array-copy-out-b : tie.Need-array-copy-out-b Inv-loop3 μ-loop3 Inv-loop2 μ-loop2 Inv-loop μ-loop
-array-copy-out-b c = c .before .if5 .left
+array-copy-out-b : tie.Need-array-copy-out-b Inv-loop3 μ-loop3 Inv-loop4 μ-loop4 Inv-loop2 μ-loop2 Inv-loop μ-loop
+array-copy-out-b c = c .before .before .if5 .left
 
-update-fields-requires : tie.Need-update-fields-requires Inv-loop3 μ-loop3 Inv-loop2 μ-loop2 Inv-loop μ-loop
-update-fields-requires c κs = omega (arith, c .before .before .before .update-head .ensures .1, loaded (c .before .before .before .before .before .before))
+needed-fields-requires : tie.Need-needed-fields-requires Inv-loop3 μ-loop3 Inv-loop4 μ-loop4 Inv-loop2 μ-loop2 Inv-loop μ-loop
+needed-fields-requires c κs = omega (arith, c .before .before .before .before .update-head .ensures .1, to-write (c .before .before .before .before .before .before .before))
 
-mul-records : tie.Need-mul-records Inv-loop3 μ-loop3 Inv-loop2 μ-loop2 Inv-loop μ-loop
-mul-records c = omega (arith, c .before .before .before .before .before .before .before .before .if5 .left)
+mul-records : tie.Need-mul-records Inv-loop3 μ-loop3 Inv-loop4 μ-loop4 Inv-loop2 μ-loop2 Inv-loop μ-loop
+mul-records c = omega (arith, needs-all c .known)
 
-array-set-from-records : tie.Need-array-set-from-records Inv-loop3 μ-loop3 Inv-loop2 μ-loop2 Inv-loop μ-loop
-array-set-from-records c = c .before .before .before .before .before .before .before .before .if5 .left
+array-set-from-records : tie.Need-array-set-from-records Inv-loop3 μ-loop3 Inv-loop4 μ-loop4 Inv-loop2 μ-loop2 Inv-loop μ-loop
+array-set-from-records c = needs-all c .known
 
-mul-marks : tie.Need-mul-marks Inv-loop3 μ-loop3 Inv-loop2 μ-loop2 Inv-loop μ-loop
-mul-marks c = omega (arith, c .before .before .before .before .before .before .before .before .if5 .left)
+mul-marks : tie.Need-mul-marks Inv-loop3 μ-loop3 Inv-loop4 μ-loop4 Inv-loop2 μ-loop2 Inv-loop μ-loop
+mul-marks c = omega (arith, needs-all c .known)
 
-array-write-marks : tie.Need-array-write-marks Inv-loop3 μ-loop3 Inv-loop2 μ-loop2 Inv-loop μ-loop
-array-write-marks c = c .before .before .before .before .before .before .before .before .if5 .left
+array-write-marks : tie.Need-array-write-marks Inv-loop3 μ-loop3 Inv-loop4 μ-loop4 Inv-loop2 μ-loop2 Inv-loop μ-loop
+array-write-marks c = needs-all c .known
 
-add-messages : tie.Need-add-messages Inv-loop3 μ-loop3 Inv-loop2 μ-loop2 Inv-loop μ-loop
-add-messages c = counts (update (updateOf (c .before .before .before)))
+add-messages : tie.Need-add-messages Inv-loop3 μ-loop3 Inv-loop4 μ-loop4 Inv-loop2 μ-loop2 Inv-loop μ-loop
+add-messages c = counts (writePlace (writing c))
 
-loop3-less : tie.Need-loop3-less Inv-loop3 μ-loop3 Inv-loop2 μ-loop2 Inv-loop μ-loop
-loop3-less c =
-    let r = c .before .before .before in
-    let o = ran (updateOf r) in
-    moved-less (body o) (body-bytes o) (scene (update (updateOf r))) (updateOf r .before .loop3 .at) _ (fieldsOf r .next) _ (at-quick (update (updateOf r)) (kind (updateOf r)) (headOf r) (fieldsOf r) (found r))
+loop3-less : tie.Need-loop3-less Inv-loop3 μ-loop3 Inv-loop4 μ-loop4 Inv-loop2 μ-loop2 Inv-loop μ-loop
+loop3-less c = less (writePlace (writing c)) _ (fieldsWritten c .next) _ (at-quick (writePlace (writing c)) (kindWritten c) (headWritten c) (fieldsWritten c) (needs-all c))
 
-loop3-again : tie.Need-loop3-again Inv-loop3 μ-loop3 Inv-loop2 μ-loop2 Inv-loop μ-loop
+loop3-again : tie.Need-loop3-again Inv-loop3 μ-loop3 Inv-loop4 μ-loop4 Inv-loop2 μ-loop2 Inv-loop μ-loop
 loop3-again c =
-    let r = c .before .before .before in
-    let i = updateOf r .before .loop3 .inv in
-    let p = update (updateOf r) in
-    let q = step-on p _ (fieldsOf r .next) _ _ _ (step-once c) _ _ (loaded-later p (kind (updateOf r)) (headOf r) (fieldsOf r) (found r) (fieldsOf r .next) (omega (arith, moves r)) (omega arith)) in
-    ((q .0, q .1, q .2, q .3, i .0 .4 ∙ q .4, q .5, q .6), omega (arith, i .1, moves r))
+    let i = writing c .before .loop3 .inv in
+    let p = writePlace (writing c) in
+    let q = loaded-on p (kindWritten c) (headWritten c) (fieldsWritten c) (needs-all c) (λ on. (c .before .before .if8 .left, c .before .before .before .before .before .if7 .left)) in
+    ((q .0, q .1, q .2, q .3, i .0 .4 ∙ q .4, q .5, q .6), omega (arith, i .1, loaded-less p (kindWritten c) (headWritten c) (fieldsWritten c) (needs-all c)))
 
-loop2-less : tie.Need-loop2-less Inv-loop3 μ-loop3 Inv-loop2 μ-loop2 Inv-loop μ-loop
-loop2-less c = omega (arith, c .if9 .taken, c .before .before .before .before .loop2-test .taken)
+loop4-holds : tie.Need-loop4-holds Inv-loop3 μ-loop3 Inv-loop4 μ-loop4 Inv-loop2 μ-loop2 Inv-loop μ-loop
+loop4-holds c =
+    let i = c .before .loop3 .inv .0 in
+    ((i .0, i .1, i .2, i .3, refl, i .5, i .6), omega arith)
 
-loop2-again : tie.Need-loop2-again Inv-loop3 μ-loop3 Inv-loop2 μ-loop2 Inv-loop μ-loop
-loop2-again c = reached (c .before .before)
+shared-slice-read-k-2 : tie.Need-shared-slice-read-k-2 Inv-loop3 μ-loop3 Inv-loop4 μ-loop4 Inv-loop2 μ-loop2 Inv-loop μ-loop
+shared-slice-read-k-2 c = omega (arith, to-read (c .before) .2)
 
-shared-slice-read-k-2 : tie.Need-shared-slice-read-k-2 Inv-loop3 μ-loop3 Inv-loop2 μ-loop2 Inv-loop μ-loop
-shared-slice-read-k-2 c = search needs
+add-update-head-2 : tie.Need-add-update-head-2 Inv-loop3 μ-loop3 Inv-loop4 μ-loop4 Inv-loop2 μ-loop2 Inv-loop μ-loop
+add-update-head-2 c = place-fits (readPlace (c .before .before))
 
-add-t99 : tie.Need-add-t99 Inv-loop3 μ-loop3 Inv-loop2 μ-loop2 Inv-loop μ-loop
-add-t99 c = place-fits (message (c .before))
+update-head-requires-2 : tie.Need-update-head-requires-2 Inv-loop3 μ-loop3 Inv-loop4 μ-loop4 Inv-loop2 μ-loop2 Inv-loop μ-loop
+update-head-requires-2 c κs = omega (arith, to-read (c .before .before) .2)
 
-sound-at-requires : tie.Need-sound-at-requires Inv-loop3 μ-loop3 Inv-loop2 μ-loop2 Inv-loop μ-loop
+mul-b-2 : tie.Need-mul-b-2 Inv-loop3 μ-loop3 Inv-loop4 μ-loop4 Inv-loop2 μ-loop2 Inv-loop μ-loop
+mul-b-2 c = omega (arith, c .before .if11 .left)
+
+array-copy-out-b-2 : tie.Need-array-copy-out-b-2 Inv-loop3 μ-loop3 Inv-loop4 μ-loop4 Inv-loop2 μ-loop2 Inv-loop μ-loop
+array-copy-out-b-2 c = c .before .if11 .left
+
+update-fields-requires : tie.Need-update-fields-requires Inv-loop3 μ-loop3 Inv-loop4 μ-loop4 Inv-loop2 μ-loop2 Inv-loop μ-loop
+update-fields-requires c κs = omega (arith, c .before .before .before .update-head2 .ensures .1, to-read (c .before .before .before .before .before .before) .2)
+
+mul-records-2 : tie.Need-mul-records-2 Inv-loop3 μ-loop3 Inv-loop4 μ-loop4 Inv-loop2 μ-loop2 Inv-loop μ-loop
+mul-records-2 c = omega (arith, found c .known)
+
+array-set-from-records-2 : tie.Need-array-set-from-records-2 Inv-loop3 μ-loop3 Inv-loop4 μ-loop4 Inv-loop2 μ-loop2 Inv-loop μ-loop
+array-set-from-records-2 c = found c .known
+
+mul-marks-2 : tie.Need-mul-marks-2 Inv-loop3 μ-loop3 Inv-loop4 μ-loop4 Inv-loop2 μ-loop2 Inv-loop μ-loop
+mul-marks-2 c = omega (arith, found c .known)
+
+array-write-marks-2 : tie.Need-array-write-marks-2 Inv-loop3 μ-loop3 Inv-loop4 μ-loop4 Inv-loop2 μ-loop2 Inv-loop μ-loop
+array-write-marks-2 c = found c .known
+
+add-messages-2 : tie.Need-add-messages-2 Inv-loop3 μ-loop3 Inv-loop4 μ-loop4 Inv-loop2 μ-loop2 Inv-loop μ-loop
+add-messages-2 c = counts (readPlace (reading c))
+
+loop4-less : tie.Need-loop4-less Inv-loop3 μ-loop3 Inv-loop4 μ-loop4 Inv-loop2 μ-loop2 Inv-loop μ-loop
+loop4-less c = less (readPlace (reading c)) _ (fieldsRead c .next) _ (at-quick (readPlace (reading c)) (kindRead c) (headRead c) (fieldsRead c) (found c))
+
+loop4-again : tie.Need-loop4-again Inv-loop3 μ-loop3 Inv-loop4 μ-loop4 Inv-loop2 μ-loop2 Inv-loop μ-loop
+loop4-again c =
+    let i = reading c .before .loop4 .inv in
+    let p = readPlace (reading c) in
+    let off = to-read (reading c) .0 in
+    let q = loaded-on p (kindRead c) (headRead c) (fieldsRead c) (found c) (λ on. absurd (true≢false (sym on ∙ off))) in
+    ((q .0, q .1, q .2, q .3, i .0 .4 ∙ q .4, q .5, q .6), omega (arith, i .1, loaded-less p (kindRead c) (headRead c) (fieldsRead c) (found c)))
+
+loop2-less : tie.Need-loop2-less Inv-loop3 μ-loop3 Inv-loop4 μ-loop4 Inv-loop2 μ-loop2 Inv-loop μ-loop
+loop2-less c = omega (arith, c .if14 .taken, c .before .before .before .before .before .before .loop2-test .taken)
+
+loop2-again : tie.Need-loop2-again Inv-loop3 μ-loop3 Inv-loop4 μ-loop4 Inv-loop2 μ-loop2 Inv-loop μ-loop
+loop2-again c = reached-read (c .before .before)
+
+shared-slice-read-k-3 : tie.Need-shared-slice-read-k-3 Inv-loop3 μ-loop3 Inv-loop4 μ-loop4 Inv-loop2 μ-loop2 Inv-loop μ-loop
+shared-slice-read-k-3 c = search needs
+
+add-t106 : tie.Need-add-t106 Inv-loop3 μ-loop3 Inv-loop4 μ-loop4 Inv-loop2 μ-loop2 Inv-loop μ-loop
+add-t106 c = place-fits (message (c .before))
+
+sound-at-requires : tie.Need-sound-at-requires Inv-loop3 μ-loop3 Inv-loop4 μ-loop4 Inv-loop2 μ-loop2 Inv-loop μ-loop
 sound-at-requires c κs = search needs
 
-refused-in-requires-2 : tie.Need-refused-in-requires-2 Inv-loop3 μ-loop3 Inv-loop2 μ-loop2 Inv-loop μ-loop
+refused-in-requires-2 : tie.Need-refused-in-requires-2 Inv-loop3 μ-loop3 Inv-loop4 μ-loop4 Inv-loop2 μ-loop2 Inv-loop μ-loop
 refused-in-requires-2 c κs = search needs
 
-same-length-2 : tie.Need-same-length-2 Inv-loop3 μ-loop3 Inv-loop2 μ-loop2 Inv-loop μ-loop
+same-length-2 : tie.Need-same-length-2 Inv-loop3 μ-loop3 Inv-loop4 μ-loop4 Inv-loop2 μ-loop2 Inv-loop μ-loop
 same-length-2 c = blockOf (inBlock (c .before .before .before .before .before .before)) .before .loop .inv .6
 
-returns-2 : tie.Need-returns-2 Inv-loop3 μ-loop3 Inv-loop2 μ-loop2 Inv-loop μ-loop
+returns-2 : tie.Need-returns-2 Inv-loop3 μ-loop3 Inv-loop4 μ-loop4 Inv-loop2 μ-loop2 Inv-loop μ-loop
 returns-2 c =
-    refuse-parsed (message (c .before .before .before .before .before .before)) _ (c .before .before .before .sound-at .result .cursor) (sound-parsed (c .before .before .before)) (c .before .if10 .taken) (c .refused-in2 .result) (c .refused-in2 .ensures)
+    refuse-parsed (message (c .before .before .before .before .before .before)) _ (c .before .before .before .sound-at .result .cursor) (sound-parsed (c .before .before .before)) (c .before .if15 .taken) (c .refused-in2 .result) (c .refused-in2 .ensures)
 
-slice-aggregate-put-sound-behind : tie.Need-slice-aggregate-put-sound-behind Inv-loop3 μ-loop3 Inv-loop2 μ-loop2 Inv-loop μ-loop
+slice-aggregate-put-sound-behind : tie.Need-slice-aggregate-put-sound-behind Inv-loop3 μ-loop3 Inv-loop4 μ-loop4 Inv-loop2 μ-loop2 Inv-loop μ-loop
 slice-aggregate-put-sound-behind c = sym (message (c .before .before .before .before .before .before .before) .reached .2)
 
-put-sound-behind-requires : tie.Need-put-sound-behind-requires Inv-loop3 μ-loop3 Inv-loop2 μ-loop2 Inv-loop μ-loop
+put-sound-behind-requires : tie.Need-put-sound-behind-requires Inv-loop3 μ-loop3 Inv-loop4 μ-loop4 Inv-loop2 μ-loop2 Inv-loop μ-loop
 put-sound-behind-requires c κs = room-for (message (c .before .before .before .before .before .before .before)) 16 (omega arith)
 
-context-requires : tie.Need-context-requires Inv-loop3 μ-loop3 Inv-loop2 μ-loop2 Inv-loop μ-loop
+context-requires : tie.Need-context-requires Inv-loop3 μ-loop3 Inv-loop4 μ-loop4 Inv-loop2 μ-loop2 Inv-loop μ-loop
 context-requires c κs = search needs
 
-time-at-requires : tie.Need-time-at-requires Inv-loop3 μ-loop3 Inv-loop2 μ-loop2 Inv-loop μ-loop
+time-at-requires : tie.Need-time-at-requires Inv-loop3 μ-loop3 Inv-loop4 μ-loop4 Inv-loop2 μ-loop2 Inv-loop μ-loop
 time-at-requires c κs = search needs
 
-refused-in-requires-3 : tie.Need-refused-in-requires-3 Inv-loop3 μ-loop3 Inv-loop2 μ-loop2 Inv-loop μ-loop
+refused-in-requires-3 : tie.Need-refused-in-requires-3 Inv-loop3 μ-loop3 Inv-loop4 μ-loop4 Inv-loop2 μ-loop2 Inv-loop μ-loop
 refused-in-requires-3 c κs = search needs
 
-same-length-3 : tie.Need-same-length-3 Inv-loop3 μ-loop3 Inv-loop2 μ-loop2 Inv-loop μ-loop
+same-length-3 : tie.Need-same-length-3 Inv-loop3 μ-loop3 Inv-loop4 μ-loop4 Inv-loop2 μ-loop2 Inv-loop μ-loop
 same-length-3 c = blockOf (inBlock (c .before .before .before .before .before .before .before)) .before .loop .inv .6
 
-returns-3 : tie.Need-returns-3 Inv-loop3 μ-loop3 Inv-loop2 μ-loop2 Inv-loop μ-loop
+returns-3 : tie.Need-returns-3 Inv-loop3 μ-loop3 Inv-loop4 μ-loop4 Inv-loop2 μ-loop2 Inv-loop μ-loop
 returns-3 c =
-    refuse-parsed (message (c .before .before .before .before .before .before .before)) _ (c .before .before .before .time-at .result .cursor) (time-parsed (c .before .before .before)) (c .before .if11 .taken) (c .refused-in3 .result) (c .refused-in3 .ensures)
+    refuse-parsed (message (c .before .before .before .before .before .before .before)) _ (c .before .before .before .time-at .result .cursor) (time-parsed (c .before .before .before)) (c .before .if16 .taken) (c .refused-in3 .result) (c .refused-in3 .ensures)
 
-add-client-at : tie.Need-add-client-at Inv-loop3 μ-loop3 Inv-loop2 μ-loop2 Inv-loop μ-loop
+add-client-at : tie.Need-add-client-at Inv-loop3 μ-loop3 Inv-loop4 μ-loop4 Inv-loop2 μ-loop2 Inv-loop μ-loop
 add-client-at c = place-fits (message (c .before .before))
 
-client-at-requires : tie.Need-client-at-requires Inv-loop3 μ-loop3 Inv-loop2 μ-loop2 Inv-loop μ-loop
+client-at-requires : tie.Need-client-at-requires Inv-loop3 μ-loop3 Inv-loop4 μ-loop4 Inv-loop2 μ-loop2 Inv-loop μ-loop
 client-at-requires c κs = search needs
 
-refused-in-requires-4 : tie.Need-refused-in-requires-4 Inv-loop3 μ-loop3 Inv-loop2 μ-loop2 Inv-loop μ-loop
+refused-in-requires-4 : tie.Need-refused-in-requires-4 Inv-loop3 μ-loop3 Inv-loop4 μ-loop4 Inv-loop2 μ-loop2 Inv-loop μ-loop
 refused-in-requires-4 c κs = search needs
 
-same-length-4 : tie.Need-same-length-4 Inv-loop3 μ-loop3 Inv-loop2 μ-loop2 Inv-loop μ-loop
+same-length-4 : tie.Need-same-length-4 Inv-loop3 μ-loop3 Inv-loop4 μ-loop4 Inv-loop2 μ-loop2 Inv-loop μ-loop
 same-length-4 c = blockOf (inBlock (c .before .before .before .before .before .before)) .before .loop .inv .6
 
-returns-4 : tie.Need-returns-4 Inv-loop3 μ-loop3 Inv-loop2 μ-loop2 Inv-loop μ-loop
+returns-4 : tie.Need-returns-4 Inv-loop3 μ-loop3 Inv-loop4 μ-loop4 Inv-loop2 μ-loop2 Inv-loop μ-loop
 returns-4 c =
-    refuse-parsed (message (c .before .before .before .before .before .before)) _ (c .before .before .before .client-at .result .cursor) (client-parsed (c .before .before .before)) (c .before .if12 .taken) (c .refused-in4 .result) (c .refused-in4 .ensures)
+    refuse-parsed (message (c .before .before .before .before .before .before)) _ (c .before .before .before .client-at .result .cursor) (client-parsed (c .before .before .before)) (c .before .if17 .taken) (c .refused-in4 .result) (c .refused-in4 .ensures)
 
-slice-aggregate-put-client-behind : tie.Need-slice-aggregate-put-client-behind Inv-loop3 μ-loop3 Inv-loop2 μ-loop2 Inv-loop μ-loop
+slice-aggregate-put-client-behind : tie.Need-slice-aggregate-put-client-behind Inv-loop3 μ-loop3 Inv-loop4 μ-loop4 Inv-loop2 μ-loop2 Inv-loop μ-loop
 slice-aggregate-put-client-behind c = sym (message (c .before .before .before .before .before .before .before .before) .reached .2)
 
-put-client-behind-requires : tie.Need-put-client-behind-requires Inv-loop3 μ-loop3 Inv-loop2 μ-loop2 Inv-loop μ-loop
+put-client-behind-requires : tie.Need-put-client-behind-requires Inv-loop3 μ-loop3 Inv-loop4 μ-loop4 Inv-loop2 μ-loop2 Inv-loop μ-loop
 put-client-behind-requires c κs = room-for (message (c .before .before .before .before .before .before .before .before)) 32 (omega arith)
 
-with-client-requires : tie.Need-with-client-requires Inv-loop3 μ-loop3 Inv-loop2 μ-loop2 Inv-loop μ-loop
+with-client-requires : tie.Need-with-client-requires Inv-loop3 μ-loop3 Inv-loop4 μ-loop4 Inv-loop2 μ-loop2 Inv-loop μ-loop
 with-client-requires c κs = search needs
 
-context-requires-2 : tie.Need-context-requires-2 Inv-loop3 μ-loop3 Inv-loop2 μ-loop2 Inv-loop μ-loop
+context-requires-2 : tie.Need-context-requires-2 Inv-loop3 μ-loop3 Inv-loop4 μ-loop4 Inv-loop2 μ-loop2 Inv-loop μ-loop
 context-requires-2 c κs = search needs
 
-is-passed-requires : tie.Need-is-passed-requires Inv-loop3 μ-loop3 Inv-loop2 μ-loop2 Inv-loop μ-loop
+is-passed-requires : tie.Need-is-passed-requires Inv-loop3 μ-loop3 Inv-loop4 μ-loop4 Inv-loop2 μ-loop2 Inv-loop μ-loop
 is-passed-requires c κs = search needs
 
-pass-message-requires : tie.Need-pass-message-requires Inv-loop3 μ-loop3 Inv-loop2 μ-loop2 Inv-loop μ-loop
+pass-message-requires : tie.Need-pass-message-requires Inv-loop3 μ-loop3 Inv-loop4 μ-loop4 Inv-loop2 μ-loop2 Inv-loop μ-loop
 pass-message-requires c κs = passes (c .before)
 
-refused-in-requires-5 : tie.Need-refused-in-requires-5 Inv-loop3 μ-loop3 Inv-loop2 μ-loop2 Inv-loop μ-loop
+refused-in-requires-5 : tie.Need-refused-in-requires-5 Inv-loop3 μ-loop3 Inv-loop4 μ-loop4 Inv-loop2 μ-loop2 Inv-loop μ-loop
 refused-in-requires-5 c κs = search needs
 
-same-length-5 : tie.Need-same-length-5 Inv-loop3 μ-loop3 Inv-loop2 μ-loop2 Inv-loop μ-loop
+same-length-5 : tie.Need-same-length-5 Inv-loop3 μ-loop3 Inv-loop4 μ-loop4 Inv-loop2 μ-loop2 Inv-loop μ-loop
 same-length-5 c = blockOf (inBlock (c .before .before .before .before .before .before .before .before .before)) .before .loop .inv .6
 
-returns-5 : tie.Need-returns-5 Inv-loop3 μ-loop3 Inv-loop2 μ-loop2 Inv-loop μ-loop
+returns-5 : tie.Need-returns-5 Inv-loop3 μ-loop3 Inv-loop4 μ-loop4 Inv-loop2 μ-loop2 Inv-loop μ-loop
 returns-5 c =
     let r = c .before .before in
-    refuse-parsed (passedAt r) _ (r .pass-message .result) (pass-parsed r) (c .before .if15 .taken) (c .refused-in5 .result) (c .refused-in5 .ensures)
+    refuse-parsed (passedAt r) _ (r .pass-message .result) (pass-parsed r) (c .before .if20 .taken) (c .refused-in5 .result) (c .refused-in5 .ensures)
 
-add-messages-2 : tie.Need-add-messages-2 Inv-loop3 μ-loop3 Inv-loop2 μ-loop2 Inv-loop μ-loop
-add-messages-2 c = counts (passedAt (c .before))
+add-messages-3 : tie.Need-add-messages-3 Inv-loop3 μ-loop3 Inv-loop4 μ-loop4 Inv-loop2 μ-loop2 Inv-loop μ-loop
+add-messages-3 c = counts (passedAt (c .before))
 
-loop2-less-2 : tie.Need-loop2-less-2 Inv-loop3 μ-loop3 Inv-loop2 μ-loop2 Inv-loop μ-loop
-loop2-less-2 c = omega (arith, step-less (passedAt (c .before)) _ (c .before .pass-message .result .at) _ _ _ (pass-step c), c .before .before .before .before .before .before .before .before .before .before .loop3 .inv .1)
+loop2-less-2 : tie.Need-loop2-less-2 Inv-loop3 μ-loop3 Inv-loop4 μ-loop4 Inv-loop2 μ-loop2 Inv-loop μ-loop
+loop2-less-2 c = omega (arith, step-less (passedAt (c .before)) _ (c .before .pass-message .result .at) _ _ _ (pass-step c), ahead (c .before .before .before .before .before .before .before .before))
 
-loop2-again-2 : tie.Need-loop2-again-2 Inv-loop3 μ-loop3 Inv-loop2 μ-loop2 Inv-loop μ-loop
+loop2-again-2 : tie.Need-loop2-again-2 Inv-loop3 μ-loop3 Inv-loop4 μ-loop4 Inv-loop2 μ-loop2 Inv-loop μ-loop
 loop2-again-2 c =
     let p = passedAt (c .before) in
     let q = step-on p _ (c .before .pass-message .result .at) _ _ _ (pass-step c) _ _ (later p _ (c .before .pass-message .result .at) _ _ _ (pass-step c)) in
     (q .0, q .1, q .2, q .3, p .reached .4 ∙ q .4, q .5, q .6)
 
-context-requires-3 : tie.Need-context-requires-3 Inv-loop3 μ-loop3 Inv-loop2 μ-loop2 Inv-loop μ-loop
+context-requires-3 : tie.Need-context-requires-3 Inv-loop3 μ-loop3 Inv-loop4 μ-loop4 Inv-loop2 μ-loop2 Inv-loop μ-loop
 context-requires-3 c κs = search needs
 
-read-message-requires : tie.Need-read-message-requires Inv-loop3 μ-loop3 Inv-loop2 μ-loop2 Inv-loop μ-loop
+read-message-requires : tie.Need-read-message-requires Inv-loop3 μ-loop3 Inv-loop4 μ-loop4 Inv-loop2 μ-loop2 Inv-loop μ-loop
 read-message-requires c κs = search needs
 
-refused-in-requires-6 : tie.Need-refused-in-requires-6 Inv-loop3 μ-loop3 Inv-loop2 μ-loop2 Inv-loop μ-loop
+refused-in-requires-6 : tie.Need-refused-in-requires-6 Inv-loop3 μ-loop3 Inv-loop4 μ-loop4 Inv-loop2 μ-loop2 Inv-loop μ-loop
 refused-in-requires-6 c κs = search needs
 
-same-length-6 : tie.Need-same-length-6 Inv-loop3 μ-loop3 Inv-loop2 μ-loop2 Inv-loop μ-loop
+same-length-6 : tie.Need-same-length-6 Inv-loop3 μ-loop3 Inv-loop4 μ-loop4 Inv-loop2 μ-loop2 Inv-loop μ-loop
 same-length-6 c = blockOf (inBlock (c .before .before .before .before .before .before .before .before .before .before)) .before .loop .inv .6
 
-returns-6 : tie.Need-returns-6 Inv-loop3 μ-loop3 Inv-loop2 μ-loop2 Inv-loop μ-loop
+returns-6 : tie.Need-returns-6 Inv-loop3 μ-loop3 Inv-loop4 μ-loop4 Inv-loop2 μ-loop2 Inv-loop μ-loop
 returns-6 c =
-    refuse-parsed (message (c .before .before .before .before .before .before .before .before .before .before)) _ (c .before .before .before .read-message .result .cursor) (other-read (c .before .before .before)) (c .before .if16 .taken) (c .refused-in6 .result) (c .refused-in6 .ensures)
+    refuse-parsed (message (c .before .before .before .before .before .before .before .before .before .before)) _ (c .before .before .before .read-message .result .cursor) (other-read (c .before .before .before)) (c .before .if21 .taken) (c .refused-in6 .result) (c .refused-in6 .ensures)
 
-enum-known-message : tie.Need-enum-known-message Inv-loop3 μ-loop3 Inv-loop2 μ-loop2 Inv-loop μ-loop
+enum-known-message : tie.Need-enum-known-message Inv-loop3 μ-loop3 Inv-loop4 μ-loop4 Inv-loop2 μ-loop2 Inv-loop μ-loop
 enum-known-message c = search needs
 
-cast-i : tie.Need-cast-i Inv-loop3 μ-loop3 Inv-loop2 μ-loop2 Inv-loop μ-loop
+cast-i : tie.Need-cast-i Inv-loop3 μ-loop3 Inv-loop4 μ-loop4 Inv-loop2 μ-loop2 Inv-loop μ-loop
 cast-i c = search needs
 
-mul-baselines : tie.Need-mul-baselines Inv-loop3 μ-loop3 Inv-loop2 μ-loop2 Inv-loop μ-loop
+mul-baselines : tie.Need-mul-baselines Inv-loop3 μ-loop3 Inv-loop4 μ-loop4 Inv-loop2 μ-loop2 Inv-loop μ-loop
 mul-baselines c = omega (arith, baseline-index (c .before .before))
 
-array-set-from-baselines : tie.Need-array-set-from-baselines Inv-loop3 μ-loop3 Inv-loop2 μ-loop2 Inv-loop μ-loop
+array-set-from-baselines : tie.Need-array-set-from-baselines Inv-loop3 μ-loop3 Inv-loop4 μ-loop4 Inv-loop2 μ-loop2 Inv-loop μ-loop
 array-set-from-baselines c = baseline-index (c .before .before)
 
-enum-known-message-2 : tie.Need-enum-known-message-2 Inv-loop3 μ-loop3 Inv-loop2 μ-loop2 Inv-loop μ-loop
+enum-known-message-2 : tie.Need-enum-known-message-2 Inv-loop3 μ-loop3 Inv-loop4 μ-loop4 Inv-loop2 μ-loop2 Inv-loop μ-loop
 enum-known-message-2 c = search needs
 
-cleared-scene-requires : tie.Need-cleared-scene-requires Inv-loop3 μ-loop3 Inv-loop2 μ-loop2 Inv-loop μ-loop
+cleared-scene-requires : tie.Need-cleared-scene-requires Inv-loop3 μ-loop3 Inv-loop4 μ-loop4 Inv-loop2 μ-loop2 Inv-loop μ-loop
 cleared-scene-requires c κs = search needs
 
-apply-rest-requires : tie.Need-apply-rest-requires Inv-loop3 μ-loop3 Inv-loop2 μ-loop2 Inv-loop μ-loop
+apply-rest-requires : tie.Need-apply-rest-requires Inv-loop3 μ-loop3 Inv-loop4 μ-loop4 Inv-loop2 μ-loop2 Inv-loop μ-loop
 unfolding sceneWith
 apply-rest-requires c κs = omega (arith, range→ (scene (message (c .before .before .before .before .before .before .before .before .before .before))) (message (c .before .before .before .before .before .before .before .before .before .before) .reached .3) .statics)
 
-add-update-head-2 : tie.Need-add-update-head-2 Inv-loop3 μ-loop3 Inv-loop2 μ-loop2 Inv-loop μ-loop
-add-update-head-2 c = place-fits (message (c .before .before .before .before))
+add-update-head-3 : tie.Need-add-update-head-3 Inv-loop3 μ-loop3 Inv-loop4 μ-loop4 Inv-loop2 μ-loop2 Inv-loop μ-loop
+add-update-head-3 c = place-fits (message (c .before .before .before .before))
 
-update-head-requires-2 : tie.Need-update-head-requires-2 Inv-loop3 μ-loop3 Inv-loop2 μ-loop2 Inv-loop μ-loop
-update-head-requires-2 c κs = omega (arith, to-load c)
+update-head-requires-3 : tie.Need-update-head-requires-3 Inv-loop3 μ-loop3 Inv-loop4 μ-loop4 Inv-loop2 μ-loop2 Inv-loop μ-loop
+update-head-requires-3 c κs = omega (arith, to-load c)
 
-mul-b-2 : tie.Need-mul-b-2 Inv-loop3 μ-loop3 Inv-loop2 μ-loop2 Inv-loop μ-loop
-mul-b-2 c = omega (arith, tested c)
+mul-b-3 : tie.Need-mul-b-3 Inv-loop3 μ-loop3 Inv-loop4 μ-loop4 Inv-loop2 μ-loop2 Inv-loop μ-loop
+mul-b-3 c = omega (arith, tested c)
 
-array-copy-out-b-2 : tie.Need-array-copy-out-b-2 Inv-loop3 μ-loop3 Inv-loop2 μ-loop2 Inv-loop μ-loop
-array-copy-out-b-2 c = tested c .0
+array-copy-out-b-3 : tie.Need-array-copy-out-b-3 Inv-loop3 μ-loop3 Inv-loop4 μ-loop4 Inv-loop2 μ-loop2 Inv-loop μ-loop
+array-copy-out-b-3 c = tested c .0
 
-update-fields-requires-2 : tie.Need-update-fields-requires-2 Inv-loop3 μ-loop3 Inv-loop2 μ-loop2 Inv-loop μ-loop
-update-fields-requires-2 c κs = omega (arith, c .before .before .update-head2 .ensures .1, to-load (c .before .before .before))
+update-fields-requires-2 : tie.Need-update-fields-requires-2 Inv-loop3 μ-loop3 Inv-loop4 μ-loop4 Inv-loop2 μ-loop2 Inv-loop μ-loop
+update-fields-requires-2 c κs = omega (arith, c .before .before .update-head3 .ensures .1, to-load (c .before .before .before))
 
-slice-aggregate-put-update-behind : tie.Need-slice-aggregate-put-update-behind Inv-loop3 μ-loop3 Inv-loop2 μ-loop2 Inv-loop μ-loop
+slice-aggregate-put-update-behind : tie.Need-slice-aggregate-put-update-behind Inv-loop3 μ-loop3 Inv-loop4 μ-loop4 Inv-loop2 μ-loop2 Inv-loop μ-loop
 slice-aggregate-put-update-behind c = sym (placeOf (c .before) .reached .2)
 
-put-update-behind-requires : tie.Need-put-update-behind-requires Inv-loop3 μ-loop3 Inv-loop2 μ-loop2 Inv-loop μ-loop
+put-update-behind-requires : tie.Need-put-update-behind-requires Inv-loop3 μ-loop3 Inv-loop4 μ-loop4 Inv-loop2 μ-loop2 Inv-loop μ-loop
 put-update-behind-requires c κs = room-for (placeOf (c .before)) _ (omega arith)
 
-mul-records-2 : tie.Need-mul-records-2 Inv-loop3 μ-loop3 Inv-loop2 μ-loop2 Inv-loop μ-loop
-mul-records-2 c = omega (arith, tested (c .before .before .before .before .before .before .before))
+mul-records-3 : tie.Need-mul-records-3 Inv-loop3 μ-loop3 Inv-loop4 μ-loop4 Inv-loop2 μ-loop2 Inv-loop μ-loop
+mul-records-3 c = omega (arith, tested (c .before .before .before .before .before .before .before))
 
-array-set-from-records-2 : tie.Need-array-set-from-records-2 Inv-loop3 μ-loop3 Inv-loop2 μ-loop2 Inv-loop μ-loop
-array-set-from-records-2 c = tested (c .before .before .before .before .before .before .before) .0
+array-set-from-records-3 : tie.Need-array-set-from-records-3 Inv-loop3 μ-loop3 Inv-loop4 μ-loop4 Inv-loop2 μ-loop2 Inv-loop μ-loop
+array-set-from-records-3 c = tested (c .before .before .before .before .before .before .before) .0
 
-mul-marks-2 : tie.Need-mul-marks-2 Inv-loop3 μ-loop3 Inv-loop2 μ-loop2 Inv-loop μ-loop
-mul-marks-2 c = omega (arith, tested (c .before .before .before .before .before .before .before) .0)
+mul-marks-3 : tie.Need-mul-marks-3 Inv-loop3 μ-loop3 Inv-loop4 μ-loop4 Inv-loop2 μ-loop2 Inv-loop μ-loop
+mul-marks-3 c = omega (arith, tested (c .before .before .before .before .before .before .before) .0)
 
-array-write-marks-2 : tie.Need-array-write-marks-2 Inv-loop3 μ-loop3 Inv-loop2 μ-loop2 Inv-loop μ-loop
-array-write-marks-2 c = tested (c .before .before .before .before .before .before .before) .0
+array-write-marks-3 : tie.Need-array-write-marks-3 Inv-loop3 μ-loop3 Inv-loop4 μ-loop4 Inv-loop2 μ-loop2 Inv-loop μ-loop
+array-write-marks-3 c = tested (c .before .before .before .before .before .before .before) .0
 
-add-messages-3 : tie.Need-add-messages-3 Inv-loop3 μ-loop3 Inv-loop2 μ-loop2 Inv-loop μ-loop
-add-messages-3 c = counts (placeOf (c .before .before .before))
+add-messages-4 : tie.Need-add-messages-4 Inv-loop3 μ-loop3 Inv-loop4 μ-loop4 Inv-loop2 μ-loop2 Inv-loop μ-loop
+add-messages-4 c = counts (placeOf (c .before .before .before))
 
-loop2-less-3 : tie.Need-loop2-less-3 Inv-loop3 μ-loop3 Inv-loop2 μ-loop2 Inv-loop μ-loop
-loop2-less-3 c = omega (arith, step-less (placeOf (c .before .before .before)) _ (fieldsAgain (c .before .before .before) .next) _ _ _ (again-step c), c .before .before .before .before .before .before .before .before .before .before .before .before .before .before .before .loop3 .inv .1)
+loop2-less-3 : tie.Need-loop2-less-3 Inv-loop3 μ-loop3 Inv-loop4 μ-loop4 Inv-loop2 μ-loop2 Inv-loop μ-loop
+loop2-less-3 c = omega (arith, step-less (placeOf (c .before .before .before)) _ (fieldsAgain (c .before .before .before) .next) _ _ _ (again-step c), ahead (c .before .before .before .before .before .before .before .before .before .before .before .before .before))
 
-loop2-again-3 : tie.Need-loop2-again-3 Inv-loop3 μ-loop3 Inv-loop2 μ-loop2 Inv-loop μ-loop
+loop2-again-3 : tie.Need-loop2-again-3 Inv-loop3 μ-loop3 Inv-loop4 μ-loop4 Inv-loop2 μ-loop2 Inv-loop μ-loop
 loop2-again-3 c =
     let p = placeOf (c .before .before .before) in
     let r = c .before .before .before in
     let q = step-on p _ (fieldsAgain r .next) _ _ _ (again-step c) _ _ (loaded-later p (kindOf r) (headAgain r) (fieldsAgain r) (again r) (p .at) (omega arith) (omega (arith, moves-again r))) in
     (q .0, q .1, q .2, q .3, p .reached .4 ∙ q .4, q .5, q .6)
 
-read-update-requires : tie.Need-read-update-requires Inv-loop3 μ-loop3 Inv-loop2 μ-loop2 Inv-loop μ-loop
+read-update-requires : tie.Need-read-update-requires Inv-loop3 μ-loop3 Inv-loop4 μ-loop4 Inv-loop2 μ-loop2 Inv-loop μ-loop
 read-update-requires c κs = search needs
 
-refused-in-requires-7 : tie.Need-refused-in-requires-7 Inv-loop3 μ-loop3 Inv-loop2 μ-loop2 Inv-loop μ-loop
+refused-in-requires-7 : tie.Need-refused-in-requires-7 Inv-loop3 μ-loop3 Inv-loop4 μ-loop4 Inv-loop2 μ-loop2 Inv-loop μ-loop
 refused-in-requires-7 c κs = search needs
 
-same-length-7 : tie.Need-same-length-7 Inv-loop3 μ-loop3 Inv-loop2 μ-loop2 Inv-loop μ-loop
+same-length-7 : tie.Need-same-length-7 Inv-loop3 μ-loop3 Inv-loop4 μ-loop4 Inv-loop2 μ-loop2 Inv-loop μ-loop
 same-length-7 c = blockOf (inBlock (c .before .before .before .before .before .before .before .before)) .before .loop .inv .6
 
-returns-7 : tie.Need-returns-7 Inv-loop3 μ-loop3 Inv-loop2 μ-loop2 Inv-loop μ-loop
+returns-7 : tie.Need-returns-7 Inv-loop3 μ-loop3 Inv-loop4 μ-loop4 Inv-loop2 μ-loop2 Inv-loop μ-loop
 returns-7 c =
-    refuse-parsed (message (c .before .before .before .before .before .before .before .before)) _ (c .before .before .before .read-update .result .cursor) (update-read (c .before .before .before)) (c .before .if20 .taken) (c .refused-in7 .result) (c .refused-in7 .ensures)
+    refuse-parsed (message (c .before .before .before .before .before .before .before .before)) _ (c .before .before .before .read-update .result .cursor) (update-read (c .before .before .before)) (c .before .if25 .taken) (c .refused-in7 .result) (c .refused-in7 .ensures)
 
-cast-i-2 : tie.Need-cast-i-2 Inv-loop3 μ-loop3 Inv-loop2 μ-loop2 Inv-loop μ-loop
-cast-i-2 c = search needs
+cast-i-2 : tie.Need-cast-i-2 Inv-loop3 μ-loop3 Inv-loop4 μ-loop4 Inv-loop2 μ-loop2 Inv-loop μ-loop
+cast-i-2 c = omega (arith, update-index (c .before .before .before))
 
-mul-b-3 : tie.Need-mul-b-3 Inv-loop3 μ-loop3 Inv-loop2 μ-loop2 Inv-loop μ-loop
-mul-b-3 c = omega (arith, update-index (c .before .before .before))
+mul-b-4 : tie.Need-mul-b-4 Inv-loop3 μ-loop3 Inv-loop4 μ-loop4 Inv-loop2 μ-loop2 Inv-loop μ-loop
+mul-b-4 c = omega (arith, update-index (c .before .before .before))
 
-array-copy-out-b-3 : tie.Need-array-copy-out-b-3 Inv-loop3 μ-loop3 Inv-loop2 μ-loop2 Inv-loop μ-loop
-array-copy-out-b-3 c = update-index (c .before .before .before)
+array-copy-out-b-4 : tie.Need-array-copy-out-b-4 Inv-loop3 μ-loop3 Inv-loop4 μ-loop4 Inv-loop2 μ-loop2 Inv-loop μ-loop
+array-copy-out-b-4 c = update-index (c .before .before .before)
 
-fill-update-requires : tie.Need-fill-update-requires Inv-loop3 μ-loop3 Inv-loop2 μ-loop2 Inv-loop μ-loop
+fill-update-requires : tie.Need-fill-update-requires Inv-loop3 μ-loop3 Inv-loop4 μ-loop4 Inv-loop2 μ-loop2 Inv-loop μ-loop
 fill-update-requires c κs = search needs
 
-slice-aggregate-put-update-behind-2 : tie.Need-slice-aggregate-put-update-behind-2 Inv-loop3 μ-loop3 Inv-loop2 μ-loop2 Inv-loop μ-loop
+slice-aggregate-put-update-behind-2 : tie.Need-slice-aggregate-put-update-behind-2 Inv-loop3 μ-loop3 Inv-loop4 μ-loop4 Inv-loop2 μ-loop2 Inv-loop μ-loop
 slice-aggregate-put-update-behind-2 c = sym (message (c .before .before .before .before .before .before .before .before .before .before .before .before .before) .reached .2)
 
-put-update-behind-requires-2 : tie.Need-put-update-behind-requires-2 Inv-loop3 μ-loop3 Inv-loop2 μ-loop2 Inv-loop μ-loop
+put-update-behind-requires-2 : tie.Need-put-update-behind-requires-2 Inv-loop3 μ-loop3 Inv-loop4 μ-loop4 Inv-loop2 μ-loop2 Inv-loop μ-loop
 put-update-behind-requires-2 c κs = room-for (message (c .before .before .before .before .before .before .before .before .before .before .before .before .before)) _ (omega arith)
 
-mul-records-3 : tie.Need-mul-records-3 Inv-loop3 μ-loop3 Inv-loop2 μ-loop2 Inv-loop μ-loop
-mul-records-3 c = omega (arith, update-index (c .before .before .before .before .before .before .before .before))
+mul-records-4 : tie.Need-mul-records-4 Inv-loop3 μ-loop3 Inv-loop4 μ-loop4 Inv-loop2 μ-loop2 Inv-loop μ-loop
+mul-records-4 c = omega (arith, update-index (c .before .before .before .before .before .before .before .before))
 
-array-set-from-records-3 : tie.Need-array-set-from-records-3 Inv-loop3 μ-loop3 Inv-loop2 μ-loop2 Inv-loop μ-loop
-array-set-from-records-3 c = update-index (c .before .before .before .before .before .before .before .before)
+array-set-from-records-4 : tie.Need-array-set-from-records-4 Inv-loop3 μ-loop3 Inv-loop4 μ-loop4 Inv-loop2 μ-loop2 Inv-loop μ-loop
+array-set-from-records-4 c = update-index (c .before .before .before .before .before .before .before .before)
 
-mul-marks-3 : tie.Need-mul-marks-3 Inv-loop3 μ-loop3 Inv-loop2 μ-loop2 Inv-loop μ-loop
-mul-marks-3 c = omega (arith, update-index (c .before .before .before .before .before .before .before .before))
+mul-marks-4 : tie.Need-mul-marks-4 Inv-loop3 μ-loop3 Inv-loop4 μ-loop4 Inv-loop2 μ-loop2 Inv-loop μ-loop
+mul-marks-4 c = omega (arith, update-index (c .before .before .before .before .before .before .before .before))
 
-array-write-marks-3 : tie.Need-array-write-marks-3 Inv-loop3 μ-loop3 Inv-loop2 μ-loop2 Inv-loop μ-loop
-array-write-marks-3 c = update-index (c .before .before .before .before .before .before .before .before)
+array-write-marks-4 : tie.Need-array-write-marks-4 Inv-loop3 μ-loop3 Inv-loop4 μ-loop4 Inv-loop2 μ-loop2 Inv-loop μ-loop
+array-write-marks-4 c = update-index (c .before .before .before .before .before .before .before .before)
 
-add-messages-4 : tie.Need-add-messages-4 Inv-loop3 μ-loop3 Inv-loop2 μ-loop2 Inv-loop μ-loop
-add-messages-4 c = counts (message (c .before .before))
+add-messages-5 : tie.Need-add-messages-5 Inv-loop3 μ-loop3 Inv-loop4 μ-loop4 Inv-loop2 μ-loop2 Inv-loop μ-loop
+add-messages-5 c = counts (message (c .before .before))
 
-loop2-less-4 : tie.Need-loop2-less-4 Inv-loop3 μ-loop3 Inv-loop2 μ-loop2 Inv-loop μ-loop
-loop2-less-4 c = omega (arith, step-less (message (c .before .before)) (next c) (c .match .at) (c .match .body) (c .match .size) (c .match .kept) (came c .0), c .before .before .before .before .loop3 .inv .1)
+loop2-less-4 : tie.Need-loop2-less-4 Inv-loop3 μ-loop3 Inv-loop4 μ-loop4 Inv-loop2 μ-loop2 Inv-loop μ-loop
+loop2-less-4 c = omega (arith, step-less (message (c .before .before)) (next c) (c .match .at) (c .match .body) (c .match .size) (c .match .kept) (came c .0), ahead (c .before .before))
 
-loop2-again-4 : tie.Need-loop2-again-4 Inv-loop3 μ-loop3 Inv-loop2 μ-loop2 Inv-loop μ-loop
+loop2-again-4 : tie.Need-loop2-again-4 Inv-loop3 μ-loop3 Inv-loop4 μ-loop4 Inv-loop2 μ-loop2 Inv-loop μ-loop
 loop2-again-4 c =
     let p = message (c .before .before) in
     let q = step-on p (next c) (c .match .at) (c .match .body) (c .match .size) (c .match .kept) (came c .0) _ _ (came c .1) in
     (q .0, q .1, q .2, q .3, p .reached .4 ∙ q .4, q .5, q .6)
 
-slice-aggregate-put-copy : tie.Need-slice-aggregate-put-copy Inv-loop3 μ-loop3 Inv-loop2 μ-loop2 Inv-loop μ-loop
+slice-aggregate-put-copy : tie.Need-slice-aggregate-put-copy Inv-loop3 μ-loop3 Inv-loop4 μ-loop4 Inv-loop2 μ-loop2 Inv-loop μ-loop
 slice-aggregate-put-copy c = sym (c .before .before .loop2 .inv .2)
 
-put-copy-requires : tie.Need-put-copy-requires Inv-loop3 μ-loop3 Inv-loop2 μ-loop2 Inv-loop μ-loop
+put-copy-requires : tie.Need-put-copy-requires Inv-loop3 μ-loop3 Inv-loop4 μ-loop4 Inv-loop2 μ-loop2 Inv-loop μ-loop
 put-copy-requires c κs =
     let k = c .before .before .loop2 in
     let s = body (c .before .before .before .before) in
     (k .inv .5, omega (arith, k .inv .1, k .inv .2, length-take (k .at - k .kept) (drop (k .kept) s), length-drop (k .kept) s))
 
-block-size-requires : tie.Need-block-size-requires Inv-loop3 μ-loop3 Inv-loop2 μ-loop2 Inv-loop μ-loop
+block-size-requires : tie.Need-block-size-requires Inv-loop3 μ-loop3 Inv-loop4 μ-loop4 Inv-loop2 μ-loop2 Inv-loop μ-loop
 block-size-requires c κs = fits (c .before) .0
 
-sub-if21 : tie.Need-sub-if21 Inv-loop3 μ-loop3 Inv-loop2 μ-loop2 Inv-loop μ-loop
-sub-if21 c = c .before .before .before .before .before .before .before .before .before .before .before .before .before .loop .inv .5
+sub-if26 : tie.Need-sub-if26 Inv-loop3 μ-loop3 Inv-loop4 μ-loop4 Inv-loop2 μ-loop2 Inv-loop μ-loop
+sub-if26 c = c .before .before .before .before .before .before .before .before .before .before .before .before .before .loop .inv .5
 
-refused-in-requires-8 : tie.Need-refused-in-requires-8 Inv-loop3 μ-loop3 Inv-loop2 μ-loop2 Inv-loop μ-loop
+refused-in-requires-8 : tie.Need-refused-in-requires-8 Inv-loop3 μ-loop3 Inv-loop4 μ-loop4 Inv-loop2 μ-loop2 Inv-loop μ-loop
 refused-in-requires-8 c κs = search needs
 
-same-length-8 : tie.Need-same-length-8 Inv-loop3 μ-loop3 Inv-loop2 μ-loop2 Inv-loop μ-loop
+same-length-8 : tie.Need-same-length-8 Inv-loop3 μ-loop3 Inv-loop4 μ-loop4 Inv-loop2 μ-loop2 Inv-loop μ-loop
 same-length-8 c = c .before .before .before .before .before .before .before .before .before .before .before .before .before .before .before .loop .inv .6
 
-returns-8 : tie.Need-returns-8 Inv-loop3 μ-loop3 Inv-loop2 μ-loop2 Inv-loop μ-loop
+returns-8 : tie.Need-returns-8 Inv-loop3 μ-loop3 Inv-loop4 μ-loop4 Inv-loop2 μ-loop2 Inv-loop μ-loop
 returns-8 c = short (c .before) (c .refused-in8 .result) (c .refused-in8 .ensures)
 
-slice-aggregate-store-block : tie.Need-slice-aggregate-store-block Inv-loop3 μ-loop3 Inv-loop2 μ-loop2 Inv-loop μ-loop
+slice-aggregate-store-block : tie.Need-slice-aggregate-store-block Inv-loop3 μ-loop3 Inv-loop4 μ-loop4 Inv-loop2 μ-loop2 Inv-loop μ-loop
 slice-aggregate-store-block c = sym (fits (c .before .before .before .before .before) .1)
 
-store-block-requires : tie.Need-store-block-requires Inv-loop3 μ-loop3 Inv-loop2 μ-loop2 Inv-loop μ-loop
+store-block-requires : tie.Need-store-block-requires Inv-loop3 μ-loop3 Inv-loop4 μ-loop4 Inv-loop2 μ-loop2 Inv-loop μ-loop
 store-block-requires c κs =
     let f = fits (c .before .before .before .before .before) in
     (room-there (c .before .before), omega (arith, f), f .0)
 
-add-written : tie.Need-add-written Inv-loop3 μ-loop3 Inv-loop2 μ-loop2 Inv-loop μ-loop
-add-written c = omega (arith, c .before .before .before .before .before .if21 .left, c .before .before .before .before .before .before .before .before .before .before .before .before .before .before .before .before .before .before .before .loop .inv .5, c .before .before .before .before .before .before .before .before .before .before .before .before .before .before .before .before .before .before .before .before .before .before .before .before .before .before .before .fits .room)
+add-written : tie.Need-add-written Inv-loop3 μ-loop3 Inv-loop4 μ-loop4 Inv-loop2 μ-loop2 Inv-loop μ-loop
+add-written c = omega (arith, c .before .before .before .before .before .if26 .left, c .before .before .before .before .before .before .before .before .before .before .before .before .before .before .before .before .before .before .before .loop .inv .5, c .before .before .before .before .before .before .before .before .before .before .before .before .before .before .before .before .before .before .before .before .before .before .before .before .before .before .before .fits .room)
 
-add-blocks : tie.Need-add-blocks Inv-loop3 μ-loop3 Inv-loop2 μ-loop2 Inv-loop μ-loop
+add-blocks : tie.Need-add-blocks Inv-loop3 μ-loop3 Inv-loop4 μ-loop4 Inv-loop2 μ-loop2 Inv-loop μ-loop
 add-blocks c = omega (arith, more (c .before .before .before .before .before .before .before .before .before .before .before .before .before .before .before .before .before .before), c .before .before .before .before .before .before .before .before .before .before .before .before .before .before .before .before .before .before .before .before .before .before .before .before .before .before .before .fits .most)
 
-loop-less : tie.Need-loop-less Inv-loop3 μ-loop3 Inv-loop2 μ-loop2 Inv-loop μ-loop
+loop-less : tie.Need-loop-less Inv-loop3 μ-loop3 Inv-loop4 μ-loop4 Inv-loop2 μ-loop2 Inv-loop μ-loop
 loop-less c = omega (arith, more (c .before .before .before .before .before .before .before .before .before .before .before .before .before .before .before .before .before .before))
 
-loop-again : tie.Need-loop-again Inv-loop3 μ-loop3 Inv-loop2 μ-loop2 Inv-loop μ-loop
+loop-again : tie.Need-loop-again Inv-loop3 μ-loop3 Inv-loop4 μ-loop4 Inv-loop2 μ-loop2 Inv-loop μ-loop
 loop-again c =
     let e = c .before .before .before .before .before in
     let w = c .before .before in
@@ -1343,7 +1484,7 @@ loop-again c =
       omega (arith, k .inv .0),
       omega (arith, more (blockOf o)),
       k .inv .3,
-      omega (arith, e .if21 .left, l .inv .5),
+      omega (arith, e .if26 .left, l .inv .5),
       kept-length w _ (w .store-block .ensures) ∙ l .inv .6,
       fits (copying (e .before)) .1,
       within-more (k .marks) (length (body o)) (end o + 1) (k .inv .6 .marks-inside) (omega (arith, body-long o)),
@@ -1352,7 +1493,7 @@ loop-again c =
     )
 
 -- What is told where the loop over blocks is left: no block is to be read, or the one that is there is refused.
-left-loop : (c : tie.Left-loop Inv-loop3 μ-loop3 Inv-loop2 μ-loop2 Inv-loop μ-loop)
+left-loop : (c : tie.Left-loop Inv-loop3 μ-loop3 Inv-loop4 μ-loop4 Inv-loop2 μ-loop2 Inv-loop μ-loop)
     → let k = c .before .loop in
     let a = c .before .before .before .before .before .before .before .before .before .args in
     record { told = record { scene = held (k .baselines) (k .records) (marked (k .since) (k .marks)) (k .rest); blocks = k .blocks; messages = k .messages; next = k .start; refusal = c .loop-test .refusal; place = k .start }; written = k .written; room = k .out }
@@ -1378,13 +1519,13 @@ left-loop c =
     ap tells (w .4) ∙ stop-block b (w .2 .result .refusal) (head-refused (input b) (k .start) (w .2 .result) (w .2 .ensures .0) (before b) (w .1 .left) (w .3 .taken))))
     (c .loop-test .came)
 
-present-of-requires : tie.Need-present-of-requires Inv-loop3 μ-loop3 Inv-loop2 μ-loop2 Inv-loop μ-loop
+present-of-requires : tie.Need-present-of-requires Inv-loop3 μ-loop3 Inv-loop4 μ-loop4 Inv-loop2 μ-loop2 Inv-loop μ-loop
 present-of-requires c κs = search needs
 
-same-length-9 : tie.Need-same-length-9 Inv-loop3 μ-loop3 Inv-loop2 μ-loop2 Inv-loop μ-loop
+same-length-9 : tie.Need-same-length-9 Inv-loop3 μ-loop3 Inv-loop4 μ-loop4 Inv-loop2 μ-loop2 Inv-loop μ-loop
 same-length-9 c = c .before .before .loop .inv .6
 
-returns-9 : tie.Need-returns-9 Inv-loop3 μ-loop3 Inv-loop2 μ-loop2 Inv-loop μ-loop
+returns-9 : tie.Need-returns-9 Inv-loop3 μ-loop3 Inv-loop4 μ-loop4 Inv-loop2 μ-loop2 Inv-loop μ-loop
 returns-9 c =
     let k = c .before .before .loop in
     ap (λ (p : List Bool). record { told = record { scene = held (k .baselines) (k .records) p (k .rest); blocks = k .blocks; messages = k .messages; next = k .start; refusal = c .before .loop-test .refusal; place = k .start }; written = k .written; room = k .out }) (c .present-of .ensures)
@@ -1396,6 +1537,8 @@ write-blocks-spec =
     (tie.spec
     Inv-loop3
     μ-loop3
+    Inv-loop4
+    μ-loop4
     Inv-loop2
     μ-loop2
     Inv-loop
@@ -1418,7 +1561,7 @@ write-blocks-spec =
     update-head-requires
     mul-b
     array-copy-out-b
-    update-fields-requires
+    needed-fields-requires
     mul-records
     array-set-from-records
     mul-marks
@@ -1426,10 +1569,24 @@ write-blocks-spec =
     add-messages
     loop3-less
     loop3-again
+    loop4-holds
+    shared-slice-read-k-2
+    add-update-head-2
+    update-head-requires-2
+    mul-b-2
+    array-copy-out-b-2
+    update-fields-requires
+    mul-records-2
+    array-set-from-records-2
+    mul-marks-2
+    array-write-marks-2
+    add-messages-2
+    loop4-less
+    loop4-again
     loop2-less
     loop2-again
-    shared-slice-read-k-2
-    add-t99
+    shared-slice-read-k-3
+    add-t106
     sound-at-requires
     refused-in-requires-2
     same-length-2
@@ -1455,7 +1612,7 @@ write-blocks-spec =
     refused-in-requires-5
     same-length-5
     returns-5
-    add-messages-2
+    add-messages-3
     loop2-less-2
     loop2-again-2
     context-requires-3
@@ -1470,18 +1627,18 @@ write-blocks-spec =
     enum-known-message-2
     cleared-scene-requires
     apply-rest-requires
-    add-update-head-2
-    update-head-requires-2
-    mul-b-2
-    array-copy-out-b-2
+    add-update-head-3
+    update-head-requires-3
+    mul-b-3
+    array-copy-out-b-3
     update-fields-requires-2
     slice-aggregate-put-update-behind
     put-update-behind-requires
-    mul-records-2
-    array-set-from-records-2
-    mul-marks-2
-    array-write-marks-2
-    add-messages-3
+    mul-records-3
+    array-set-from-records-3
+    mul-marks-3
+    array-write-marks-3
+    add-messages-4
     loop2-less-3
     loop2-again-3
     read-update-requires
@@ -1489,22 +1646,22 @@ write-blocks-spec =
     same-length-7
     returns-7
     cast-i-2
-    mul-b-3
-    array-copy-out-b-3
+    mul-b-4
+    array-copy-out-b-4
     fill-update-requires
     slice-aggregate-put-update-behind-2
     put-update-behind-requires-2
-    mul-records-3
-    array-set-from-records-3
-    mul-marks-3
-    array-write-marks-3
-    add-messages-4
+    mul-records-4
+    array-set-from-records-4
+    mul-marks-4
+    array-write-marks-4
+    add-messages-5
     loop2-less-4
     loop2-again-4
     slice-aggregate-put-copy
     put-copy-requires
     block-size-requires
-    sub-if21
+    sub-if26
     refused-in-requires-8
     same-length-8
     returns-8

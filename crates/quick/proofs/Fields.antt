@@ -19,7 +19,7 @@ use Rattle.dem.specs.Message.{highBit, wideBit}
 use Rattle.dem.proofs.ByteLaws.{bit-div}
 use Rattle.dem.proofs.AtLaws.{one-at, two-at}
 use Rattle.wire.proofs.SignedLaws.{same-bits}
-use Rattle.masked.proofs.MaskLaws.{update-mask}
+use Rattle.masked.proofs.MaskLaws.{bit-test, update-mask}
 use Rattle.quick.specs.Spread.{fieldOr, behind, needlessOr, spread, passed, needlessIn}
 use Rattle.quick.specs.Heads.{highAt, maskAt, entityWidth, headAt, needlessHead}
 use Rattle.quick.specs.declared.UpdateHead.{UpdateHead}
@@ -52,6 +52,32 @@ module _ (d : List ℕ) (at : ℕ) (sent : Bool) (w other : ℕ) (before : Bool)
   pub field-other : sent ≡ false → Picks d at sent w other before other at before
   unfolding fieldOr behind needlessOr
   field-other e = rw e (refl, omega arith, refl)
+
+-- A bit is 1 where it is set.
+bit-number : (m k : ℕ) → m / 2 ^ k % 2 ≡ cond (bit m k) 1 0
+bit-number m k = digit (m / 2 ^ k % 2) (omega arith) ∙ ap (λ (b : Bool). cond b 1 0) (sym (bit-div m k))
+  where
+    digit : (x : ℕ) → x < 2 → x ≡ cond (isSet x) 1 0
+    digit zero h = refl
+    digit (suc zero) h = refl
+    digit (suc (suc x)) h = omega arith
+
+flag-chosen : (before sent e : Bool) → (before || sent && e) ≡ cond sent (before || e) before
+flag-chosen true true e = refl
+flag-chosen true false e = refl
+flag-chosen false true e = refl
+flag-chosen false false e = refl
+
+-- A byte picked without a jump: the place moves by the bit itself.
+pub field-chosen : (d : List ℕ) (at m k other : ℕ) (before : Bool) (v u : ℕ)
+    → v ≡ leRead (take 1 (drop at d)) → u ≡ cond (not (eqb (m / 2 ^ k % 2) 0)) v other
+    → Picks d at (bit m k) 1 other before u (at + m / 2 ^ k % 2) (before || not (eqb (m / 2 ^ k % 2) 0) && eqb v other)
+unfolding fieldOr behind needlessOr
+field-chosen d at m k other before v u h e = (
+  e ∙ (λ i. cond (bit-test m k i) (h i) other),
+  ap (λ (x : ℕ). at + x) (bit-number m k),
+  (λ i. before || bit-test m k i && eqb (h i) other) ∙ flag-chosen before (bit m k) (eqb (leRead (take 1 (drop at d))) other),
+)
 
 -- A signed field, its default handed on and its value too.
 pub signed-picks : (w : Width) (d : List ℕ) (at : ℕ) (sent : Bool) (n : ℕ) (before : Bool) (v o : ℤ) (next : ℕ) (flag : Bool)

@@ -2,7 +2,7 @@
 // being whole. The place behind the last says whether all that were sent lie in the block.
 ghost use mathlib.Core.Path.{_≡_};
 ghost use mathlib.Core.List.{[], _∷_, _++_};
-ghost use mathlib.Core.Bool.{false};
+ghost use mathlib.Core.Bool.{false, cond};
 ghost use Prim.Native.Nat.{_+_, _<_, _≤_};
 ghost use lib.ListN.{length, take, drop};
 ghost use mir.Val.{ofZ};
@@ -128,6 +128,55 @@ fn short_or(d: &[u8], at: usize, mask: u16, k: u16, other: i16, needless: bool) 
         value: other,
         next: at,
         needless,
+    }
+}
+
+// One of two values, chosen without a jump.
+fn byte_of(sent: bool, v: u8, other: u8) -> u8
+    ensures { λ r. ⌜ r ≡ cond sent v other ⌝ }
+{
+    if sent { v } else { other }
+}
+
+fn char_of(sent: bool, v: i8, other: i8) -> i8
+    ensures { λ r. ⌜ ofZ w8 r ≡ cond sent (ofZ w8 v) (ofZ w8 other) ⌝ }
+{
+    if sent { v } else { other }
+}
+
+// The same as `byte_or` and `char_or` without a jump, for fields that come and go too often to be foreseen.
+fn byte_chosen(d: &[u8], at: usize, mask: u16, k: u16, other: u8, needless: bool) -> ByteOr
+    requires { ⌜ (at < length (now d)) × (k < 16) ⌝ }
+    ensures { λ r. ⌜ r .value ≡ fieldOr (now (d .entry)) at (bit mask k) 1 other ⌝ }
+    ensures place { λ r. ⌜ r .next ≡ behind at (bit mask k) 1 ⌝ }
+    ensures flag { λ r. ⌜ r .needless ≡ needlessOr needless (now (d .entry)) at (bit mask k) 1 other ⌝ }
+    ensures near { λ r. ⌜ r .next ≤ at + 1 ⌝ }
+{
+    let v = d[at];
+    let bit = (mask >> k) % 2;
+    let sent = bit != 0;
+    ByteOr {
+        value: byte_of(sent, v, other),
+        next: at + (bit as usize),
+        needless: needless | (sent & (v == other)),
+    }
+}
+
+fn char_chosen(d: &[u8], at: usize, mask: u16, k: u16, other: i8, needless: bool) -> CharOr
+    requires { ⌜ (at < length (now d)) × (k < 16) ⌝ }
+    ensures { λ r. ⌜ ofZ w8 (r .value) ≡ fieldOr (now (d .entry)) at (bit mask k) 1 (ofZ w8 other) ⌝ }
+    ensures place { λ r. ⌜ r .next ≡ behind at (bit mask k) 1 ⌝ }
+    ensures flag { λ r. ⌜ r .needless ≡ needlessOr needless (now (d .entry)) at (bit mask k) 1 (ofZ w8 other) ⌝ }
+    ensures near { λ r. ⌜ r .next ≤ at + 1 ⌝ }
+{
+    let v = d[at];
+    let bit = (mask >> k) % 2;
+    let sent = bit != 0;
+    let value = wire::signed8(v);
+    CharOr {
+        value: char_of(sent, value, other),
+        next: at + (bit as usize),
+        needless: needless | (sent & (v == pieces::unsigned8(other))),
     }
 }
 
@@ -311,14 +360,14 @@ fn motion_or(d: &[u8], at: usize, mask: u16, needless: bool) -> MotionOr
     ensures flag { λ r. ⌜ r .needless ≡ needlessIn (now (d .entry)) (take 8 clientSlots) (bit mask) at needless ⌝ }
     ensures near { λ r. ⌜ r .next ≤ at + 8 ⌝ }
 {
-    let h = char_or(d, at, mask, 0, 22, needless);
-    let p = char_or(d, h.next, mask, 1, 0, h.needless);
+    let h = char_chosen(d, at, mask, 0, 22, needless);
+    let p = char_chosen(d, h.next, mask, 1, 0, h.needless);
     let p0 = char_or(d, p.next, mask, 2, 0, p.needless);
-    let v0 = char_or(d, p0.next, mask, 5, 0, p0.needless);
+    let v0 = char_chosen(d, p0.next, mask, 5, 0, p0.needless);
     let p1 = char_or(d, v0.next, mask, 3, 0, v0.needless);
-    let v1 = char_or(d, p1.next, mask, 6, 0, p1.needless);
+    let v1 = char_chosen(d, p1.next, mask, 6, 0, p1.needless);
     let p2 = char_or(d, v1.next, mask, 4, 0, v1.needless);
-    let v2 = char_or(d, p2.next, mask, 7, 0, p2.needless);
+    let v2 = char_chosen(d, p2.next, mask, 7, 0, p2.needless);
     let motion = Motion {
         view_height: h.value,
         pitch: p.value,
@@ -343,9 +392,9 @@ fn arms_or(d: &[u8], at: usize, mask: u16, needless: bool) -> ArmsOr
     ensures flag { λ r. ⌜ r .needless ≡ needlessIn (now (d .entry)) (drop 9 clientSlots) (bit mask) at needless ⌝ }
     ensures near { λ r. ⌜ r .next ≤ at + 3 ⌝ }
 {
-    let f = byte_or(d, at, mask, 12, 0, needless);
-    let a = byte_or(d, f.next, mask, 13, 0, f.needless);
-    let m = byte_or(d, a.next, mask, 14, 0, a.needless);
+    let f = byte_chosen(d, at, mask, 12, 0, needless);
+    let a = byte_chosen(d, f.next, mask, 13, 0, f.needless);
+    let m = byte_chosen(d, a.next, mask, 14, 0, a.needless);
     let arms = Arms {
         weapon_frame: f.value,
         armour: a.value,

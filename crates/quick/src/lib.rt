@@ -153,11 +153,11 @@ fn byte_chosen(d: &[u8], at: usize, mask: u16, k: u16, other: u8, needless: bool
     ensures near { λ r. ⌜ r .next ≤ at + 1 ⌝ }
 {
     let v = d[at];
-    let bit = (mask >> k) % 2;
-    let sent = bit != 0;
+    let step = (mask >> k) % 2;
+    let sent = step != 0;
     ByteOr {
         value: byte_of(sent, v, other),
-        next: at + (bit as usize),
+        next: at + (step as usize),
         needless: needless | (sent & (v == other)),
     }
 }
@@ -198,18 +198,31 @@ struct PoseOr {
     needless: bool,
 }
 
-// A look, then effects, of which each is sent or not.
-fn every_look(d: &[u8], at: usize, mask: u16, b: Baseline) -> LookOr
+// A look, then effects, of which each is sent or not. Only the frame is sent often: where none of the others is, they are passed over at
+// once.
+fn look_or(d: &[u8], at: usize, mask: u16, o: Look) -> LookOr
     requires { ⌜ at + 5 ≤ length (now d) ⌝ }
-    ensures { λ r. ⌜ lookOf r ≡ spread (now (d .entry)) (lookSlots (b .look)) (bit mask) at ⌝ }
-    ensures place { λ r. ⌜ r .next ≡ passed (lookSlots (b .look)) (bit mask) at ⌝ }
-    ensures flag { λ r. ⌜ r .needless ≡ needlessIn (now (d .entry)) (lookSlots (b .look)) (bit mask) at false ⌝ }
+    ensures { λ r. ⌜ lookOf r ≡ spread (now (d .entry)) (lookSlots o) (bit mask) at ⌝ }
+    ensures place { λ r. ⌜ r .next ≡ passed (lookSlots o) (bit mask) at ⌝ }
+    ensures flag { λ r. ⌜ r .needless ≡ needlessIn (now (d .entry)) (lookSlots o) (bit mask) at false ⌝ }
     ensures near { λ r. ⌜ r .next ≤ at + 5 ⌝ }
 {
-    let m = byte_or(d, at, mask, 10, b.look.model, false);
-    let f = byte_or(d, m.next, mask, 6, b.look.frame, m.needless);
-    let c = byte_or(d, f.next, mask, 11, b.look.colormap, f.needless);
-    let s = byte_or(d, c.next, mask, 12, b.look.skin, c.needless);
+    if (mask >> 10) % 16 == 0 {
+        let f = byte_or(d, at, mask, 6, o.frame, false);
+        return LookOr {
+            model: o.model,
+            frame: f.value,
+            colormap: o.colormap,
+            skin: o.skin,
+            effects: 0,
+            next: f.next,
+            needless: f.needless,
+        };
+    }
+    let m = byte_or(d, at, mask, 10, o.model, false);
+    let f = byte_or(d, m.next, mask, 6, o.frame, m.needless);
+    let c = byte_or(d, f.next, mask, 11, o.colormap, f.needless);
+    let s = byte_or(d, c.next, mask, 12, o.skin, c.needless);
     let e = byte_or(d, s.next, mask, 13, 0, s.needless);
     LookOr {
         model: m.value,
@@ -222,27 +235,40 @@ fn every_look(d: &[u8], at: usize, mask: u16, b: Baseline) -> LookOr
     }
 }
 
-// The same. Of these only the frame is sent often: where none of the others is, they are passed over at once.
-fn look_or(d: &[u8], at: usize, mask: u16, b: Baseline) -> LookOr
+// The same without a jump for each.
+fn look_chosen(d: &[u8], at: usize, mask: u16, o: Look) -> LookOr
     requires { ⌜ at + 5 ≤ length (now d) ⌝ }
-    ensures { λ r. ⌜ lookOf r ≡ spread (now (d .entry)) (lookSlots (b .look)) (bit mask) at ⌝ }
-    ensures place { λ r. ⌜ r .next ≡ passed (lookSlots (b .look)) (bit mask) at ⌝ }
-    ensures flag { λ r. ⌜ r .needless ≡ needlessIn (now (d .entry)) (lookSlots (b .look)) (bit mask) at false ⌝ }
+    ensures { λ r. ⌜ lookOf r ≡ spread (now (d .entry)) (lookSlots o) (bit mask) at ⌝ }
+    ensures place { λ r. ⌜ r .next ≡ passed (lookSlots o) (bit mask) at ⌝ }
+    ensures flag { λ r. ⌜ r .needless ≡ needlessIn (now (d .entry)) (lookSlots o) (bit mask) at false ⌝ }
     ensures near { λ r. ⌜ r .next ≤ at + 5 ⌝ }
 {
     if (mask >> 10) % 16 == 0 {
-        let f = byte_or(d, at, mask, 6, b.look.frame, false);
+        let f = byte_chosen(d, at, mask, 6, o.frame, false);
         return LookOr {
-            model: b.look.model,
+            model: o.model,
             frame: f.value,
-            colormap: b.look.colormap,
-            skin: b.look.skin,
+            colormap: o.colormap,
+            skin: o.skin,
             effects: 0,
             next: f.next,
             needless: f.needless,
         };
     }
-    every_look(d, at, mask, b)
+    let m = byte_chosen(d, at, mask, 10, o.model, false);
+    let f = byte_chosen(d, m.next, mask, 6, o.frame, m.needless);
+    let c = byte_chosen(d, f.next, mask, 11, o.colormap, f.needless);
+    let s = byte_chosen(d, c.next, mask, 12, o.skin, c.needless);
+    let e = byte_chosen(d, s.next, mask, 13, 0, s.needless);
+    LookOr {
+        model: m.value,
+        frame: f.value,
+        colormap: c.value,
+        skin: s.value,
+        effects: e.value,
+        next: e.next,
+        needless: e.needless,
+    }
 }
 
 fn pose_or(d: &[u8], at: usize, mask: u16, other: Pose, needless: bool) -> PoseOr
@@ -316,9 +342,9 @@ pub fn update_fields(d: &[u8], at: usize, mask: u16, b: Baseline) -> RecordAt
     ensures place { λ r. ⌜ r .next ≡ passed (updateSlots (baselineNumbers b)) (bit mask) at ⌝ }
     ensures flag { λ r. ⌜ r .needless ≡ needlessIn (now (d .entry)) (updateSlots (baselineNumbers b)) (bit mask) at false ⌝ }
 {
-    let l = look_or(d, at, mask, b);
-    let p = pose_or(d, l.next, mask, b.pose, l.needless);
     let look = b.look;
+    let l = look_chosen(d, at, mask, look);
+    let p = pose_or(d, l.next, mask, b.pose, l.needless);
     let pose = p.pose;
     let mut record = Record {
         bit5: (mask >> 5) % 2 != 0,

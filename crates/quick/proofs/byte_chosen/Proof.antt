@@ -11,8 +11,8 @@ use Rattle.quick.proofs.byte_chosen.Tie as tie
 shared-slice-read-v : tie.Need-shared-slice-read-v
 shared-slice-read-v c = search needs
 
-shr-bit : tie.Need-shr-bit
-shr-bit c = search needs
+shr-step : tie.Need-shr-step
+shr-step c = search needs
 
 byte-of-requires : tie.Need-byte-of-requires
 byte-of-requires c κs = search needs
@@ -31,4 +31,4 @@ returns c =
 
 pub byte-chosen-spec : {M : Type 1} → statement M
 byte-chosen-spec =
-    tie.close (tie.spec shared-slice-read-v shr-bit byte-of-requires cast-t13 add-t14 returns)
+    tie.close (tie.spec shared-slice-read-v shr-step byte-of-requires cast-t13 add-t14 returns)

@@ -153,11 +153,12 @@ fn byte_chosen(d: &[u8], at: usize, mask: u16, k: u16, other: u8, needless: bool
     ensures near { λ r. ⌜ r .next ≤ at + 1 ⌝ }
 {
     let v = d[at];
-    let step = (mask >> k) % 2;
-    let sent = step != 0;
+    let bit = (mask >> k) % 2;
+    let sent = bit != 0;
+    let size = bit as usize;
     ByteOr {
         value: byte_of(sent, v, other),
-        next: at + (step as usize),
+        next: at + size,
         needless: needless | (sent & (v == other)),
     }
 }

@@ -11,14 +11,14 @@ use Rattle.quick.proofs.byte_chosen.Tie as tie
 shared-slice-read-v : tie.Need-shared-slice-read-v
 shared-slice-read-v c = search needs
 
-shr-step : tie.Need-shr-step
-shr-step c = search needs
+shr-bit : tie.Need-shr-bit
+shr-bit c = search needs
+
+cast-size : tie.Need-cast-size
+cast-size c = search needs
 
 byte-of-requires : tie.Need-byte-of-requires
 byte-of-requires c κs = search needs
-
-cast-t13 : tie.Need-cast-t13
-cast-t13 c = search needs
 
 add-t14 : tie.Need-add-t14
 add-t14 c = search needs
@@ -31,4 +31,4 @@ returns c =
 
 pub byte-chosen-spec : {M : Type 1} → statement M
 byte-chosen-spec =
-    tie.close (tie.spec shared-slice-read-v shr-step byte-of-requires cast-t13 add-t14 returns)
+    tie.close (tie.spec shared-slice-read-v shr-bit cast-size byte-of-requires add-t14 returns)

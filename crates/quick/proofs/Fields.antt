@@ -19,11 +19,14 @@ use Rattle.dem.specs.Message.{highBit, wideBit}
 use Rattle.dem.proofs.ByteLaws.{bit-div}
 use Rattle.dem.proofs.AtLaws.{one-at, two-at}
 use Rattle.wire.proofs.SignedLaws.{same-bits}
-use Rattle.masked.proofs.MaskLaws.{update-mask}
+use Rattle.message.specs.declared.Look.{Look}
 use Rattle.message.specs.declared.Pose.{Pose}
 use Rattle.message.specs.Values.{poseValues}
-use Rattle.quick.specs.Spread.{fieldOr, behind, needlessOr, spread, passed, needlessIn, poseSlots}
+use Rattle.masked.proofs.MaskLaws.{bit-test, update-mask}
+use Rattle.quick.specs.Spread.{fieldOr, behind, needlessOr, spread, passed, needlessIn, lookSlots, lookOf, poseSlots}
 use Rattle.quick.specs.Heads.{highAt, maskAt, entityWidth, headAt, needlessHead}
+use Rattle.quick.specs.declared.ByteOr.{ByteOr}
+use Rattle.quick.specs.declared.LookOr.{LookOr}
 use Rattle.quick.specs.declared.UpdateHead.{UpdateHead}
 
 pub set-one : (x : ℕ) → (x ≡ 0 → ⊥) → isSet x ≡ true
@@ -38,7 +41,7 @@ pub bit-clear : (m k : ℕ) → m / 2 ^ k % 2 ≡ 0 → bit m k ≡ false
 bit-clear m k h = bit-div m k ∙ ap isSet h
 
 -- Bits 10 to 13, by one test.
-pub four-clear : (m : ℕ) → m / 2 ^ 10 % 16 ≡ 0 → (bit m 10 ≡ false) × (bit m 11 ≡ false) × (bit m 12 ≡ false) × (bit m 13 ≡ false)
+four-clear : (m : ℕ) → m / 2 ^ 10 % 16 ≡ 0 → (bit m 10 ≡ false) × (bit m 11 ≡ false) × (bit m 12 ≡ false) × (bit m 13 ≡ false)
 four-clear m h = (bit-clear m 10 (omega arith), bit-clear m 11 (omega arith), bit-clear m 12 (omega arith), bit-clear m 13 (omega arith))
 
 -- A field's value, the place behind it, and whether it or one before it was sent needlessly.
@@ -54,6 +57,32 @@ module _ (d : List ℕ) (at : ℕ) (sent : Bool) (w other : ℕ) (before : Bool)
   pub field-other : sent ≡ false → Picks d at sent w other before other at before
   unfolding fieldOr behind needlessOr
   field-other e = rw e (refl, omega arith, refl)
+
+-- A bit is 1 where it is set.
+bit-number : (m k : ℕ) → m / 2 ^ k % 2 ≡ cond (bit m k) 1 0
+bit-number m k = digit (m / 2 ^ k % 2) (omega arith) ∙ ap (λ (b : Bool). cond b 1 0) (sym (bit-div m k))
+  where
+    digit : (x : ℕ) → x < 2 → x ≡ cond (isSet x) 1 0
+    digit zero h = refl
+    digit (suc zero) h = refl
+    digit (suc (suc x)) h = omega arith
+
+flag-chosen : (before sent e : Bool) → (before || sent && e) ≡ cond sent (before || e) before
+flag-chosen true true e = refl
+flag-chosen true false e = refl
+flag-chosen false true e = refl
+flag-chosen false false e = refl
+
+-- A byte picked without a jump: the place moves by the bit itself.
+pub field-chosen : (d : List ℕ) (at m k other : ℕ) (before : Bool) (v u : ℕ)
+    → v ≡ leRead (take 1 (drop at d)) → u ≡ cond (not (eqb (m / 2 ^ k % 2) 0)) v other
+    → Picks d at (bit m k) 1 other before u (at + m / 2 ^ k % 2) (before || not (eqb (m / 2 ^ k % 2) 0) && eqb v other)
+unfolding fieldOr behind needlessOr
+field-chosen d at m k other before v u h e = (
+  e ∙ (λ i. cond (bit-test m k i) (h i) other),
+  ap (λ (x : ℕ). at + x) (bit-number m k),
+  (λ i. before || bit-test m k i && eqb (h i) other) ∙ flag-chosen before (bit m k) (eqb (leRead (take 1 (drop at d))) other),
+)
 
 -- A signed field, its default handed on and its value too.
 abbrev pub Signed : Width → List ℕ → ℕ → Bool → ℕ → Bool → ℤ → ℤ → ℕ → Bool → Type 0
@@ -145,7 +174,7 @@ slot-always d mask s ss at before v vs end n a h =
     (ap (λ (a : Bool). cond a before (needlessOr before d at (isSent s mask) (s .width) (s .default))) (sym a))
 
 -- One that is not sent, then others.
-pub slot-unsent : (d : List ℕ) (mask : Mask) (s : Slot) (ss : List Slot) (at : ℕ) (before : Bool) (vs : List Value) (end : ℕ) (n : Bool)
+slot-unsent : (d : List ℕ) (mask : Mask) (s : Slot) (ss : List Slot) (at : ℕ) (before : Bool) (vs : List Value) (end : ℕ) (n : Bool)
     → s .always ≡ false → isSent s mask ≡ false → Spreads d ss mask at before vs end n
     → Spreads d (s ∷ ss) mask at before (number (s .default) ∷ vs) end n
 slot-unsent d mask s ss at before vs end n a u =
@@ -218,3 +247,49 @@ signed-flag w d mask k n ss at before o v next flag fo p =
 unfoldable pub sent : List ℕ → List Slot → Mask → ℕ → List Value
 sent d [] mask at = []
 sent d (s ∷ ss) mask at = number (fieldOr d at (isSent s mask) (s .width) 0) ∷ sent d ss mask (behind at (isSent s mask) (s .width))
+
+-- ---- a look
+
+-- What is ensured of a byte that bit k brings, and of a look with effects.
+abbrev Byte : List ℕ → ℕ → ℕ → ℕ → ℕ → Bool → ByteOr → Type 0
+Byte d at m k other before r =
+    (r .value ≡ fieldOr d at (bit m k) 1 other)
+    × ((r .next ≡ behind at (bit m k) 1) × ((r .needless ≡ needlessOr before d at (bit m k) 1 other) × (r .next ≤ at + 1)))
+
+abbrev Looked : List ℕ → ℕ → ℕ → Look → LookOr → Type 0
+Looked d at m o r =
+    (lookOf r ≡ spread d (lookSlots o) (bit m) at)
+    × ((r .next ≡ passed (lookSlots o) (bit m) at) × ((r .needless ≡ needlessIn d (lookSlots o) (bit m) at false) × (r .next ≤ at + 5)))
+
+byte-then : (d : List ℕ) (m k other : ℕ) (ss : List Slot) (at : ℕ) (before : Bool) (r : ByteOr) (vs : List Value) (end : ℕ) (n : Bool)
+    → Byte d at m k other before r → Spreads d ss (bit m) (r .next) (r .needless) vs end n
+    → Spreads d (slot k 1 other ∷ ss) (bit m) at before (number (r .value) ∷ vs) end n
+byte-then d m k other ss at before r vs end n p =
+    slot-then d (bit m) (slot k 1 other) ss at before (r .value) (r .next) (r .needless) vs end n refl (p .0, p .1 .0, p .1 .1 .0)
+
+module _ (d : List ℕ) (at m : ℕ) (o : Look) where
+  -- Where bits 10 to 13 are clear only the frame can be sent.
+  pub look-frame : (f : ByteOr) → m / 2 ^ 10 % 16 ≡ 0 → Byte d at m 6 (o .frame) false f
+      → Looked d at m o (record { model = o .model; frame = f .value; colormap = o .colormap; skin = o .skin; effects = 0; next = f .next; needless = f .needless })
+  look-frame f h p =
+      let z = four-clear m h in
+      let ss = lookSlots o in
+      let q = slot-unsent d (bit m) (slot 10 1 (o .model)) (drop 1 ss) at false _ (f .next) (f .needless) refl (z .0)
+      (byte-then d m 6 (o .frame) (drop 2 ss) at false f _ (f .next) (f .needless) p
+      (slot-unsent d (bit m) (slot 11 1 (o .colormap)) (drop 3 ss) (f .next) (f .needless) _ (f .next) (f .needless) refl (z .1)
+      (slot-unsent d (bit m) (slot 12 1 (o .skin)) (drop 4 ss) (f .next) (f .needless) _ (f .next) (f .needless) refl (z .2)
+      (slot-unsent d (bit m) (slot 13 1 0) [] (f .next) (f .needless) [] (f .next) (f .needless) refl (z .3) (refl, refl, refl))))) in
+      (q .0, (q .1, (q .2, omega arith)))
+
+  -- Each field by its bit.
+  pub look-each : (p f k s e : ByteOr) → Byte d at m 10 (o .model) false p → Byte d (p .next) m 6 (o .frame) (p .needless) f
+      → Byte d (f .next) m 11 (o .colormap) (f .needless) k → Byte d (k .next) m 12 (o .skin) (k .needless) s → Byte d (s .next) m 13 0 (s .needless) e
+      → Looked d at m o (record { model = p .value; frame = f .value; colormap = k .value; skin = s .value; effects = e .value; next = e .next; needless = e .needless })
+  look-each p f k s e hp hf hk hs he =
+      let ss = lookSlots o in
+      let q = byte-then d m 10 (o .model) (drop 1 ss) at false p _ (e .next) (e .needless) hp
+      (byte-then d m 6 (o .frame) (drop 2 ss) (p .next) (p .needless) f _ (e .next) (e .needless) hf
+      (byte-then d m 11 (o .colormap) (drop 3 ss) (f .next) (f .needless) k _ (e .next) (e .needless) hk
+      (byte-then d m 12 (o .skin) (drop 4 ss) (k .next) (k .needless) s _ (e .next) (e .needless) hs
+      (byte-then d m 13 0 [] (s .next) (s .needless) e [] (e .next) (e .needless) he (refl, refl, refl))))) in
+      (q .0, (q .1, (q .2, omega arith)))

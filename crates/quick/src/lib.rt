@@ -2,7 +2,7 @@
 // being whole. The place behind the last says whether all that were sent lie in the block.
 ghost use mathlib.Core.Path.{_≡_};
 ghost use mathlib.Core.List.{[], _∷_, _++_};
-ghost use mathlib.Core.Bool.{true, false};
+ghost use mathlib.Core.Bool.{true, false, cond};
 ghost use Prim.Native.Nat.{_+_, _<_, _≤_};
 ghost use lib.ListN.{length, take, drop};
 ghost use mir.Val.{ofZ};
@@ -131,6 +131,56 @@ fn short_or(d: &[u8], at: usize, mask: u16, k: u16, other: i16, needless: bool) 
     }
 }
 
+// One of two values, chosen without a jump.
+fn byte_of(sent: bool, v: u8, other: u8) -> u8
+    ensures { λ r. ⌜ r ≡ cond sent v other ⌝ }
+{
+    if sent { v } else { other }
+}
+
+fn char_of(sent: bool, v: i8, other: i8) -> i8
+    ensures { λ r. ⌜ ofZ w8 r ≡ cond sent (ofZ w8 v) (ofZ w8 other) ⌝ }
+{
+    if sent { v } else { other }
+}
+
+// The same as `byte_or` and `char_or` without a jump, for fields that come and go too often to be foreseen.
+fn byte_chosen(d: &[u8], at: usize, mask: u16, k: u16, other: u8, needless: bool) -> ByteOr
+    requires { ⌜ (at < length (now d)) × (k < 16) ⌝ }
+    ensures { λ r. ⌜ r .value ≡ fieldOr (now (d .entry)) at (bit mask k) 1 other ⌝ }
+    ensures place { λ r. ⌜ r .next ≡ behind at (bit mask k) 1 ⌝ }
+    ensures flag { λ r. ⌜ r .needless ≡ needlessOr needless (now (d .entry)) at (bit mask k) 1 other ⌝ }
+    ensures near { λ r. ⌜ r .next ≤ at + 1 ⌝ }
+{
+    let v = d[at];
+    let bit = (mask >> k) % 2;
+    let sent = bit != 0;
+    let size = bit as usize;
+    ByteOr {
+        value: byte_of(sent, v, other),
+        next: at + size,
+        needless: needless | (sent & (v == other)),
+    }
+}
+
+fn char_chosen(d: &[u8], at: usize, mask: u16, k: u16, other: i8, needless: bool) -> CharOr
+    requires { ⌜ (at < length (now d)) × (k < 16) ⌝ }
+    ensures { λ r. ⌜ ofZ w8 (r .value) ≡ fieldOr (now (d .entry)) at (bit mask k) 1 (ofZ w8 other) ⌝ }
+    ensures place { λ r. ⌜ r .next ≡ behind at (bit mask k) 1 ⌝ }
+    ensures flag { λ r. ⌜ r .needless ≡ needlessOr needless (now (d .entry)) at (bit mask k) 1 (ofZ w8 other) ⌝ }
+    ensures near { λ r. ⌜ r .next ≤ at + 1 ⌝ }
+{
+    let v = d[at];
+    let bit = (mask >> k) % 2;
+    let sent = bit != 0;
+    let value = wire::signed8(v);
+    CharOr {
+        value: char_of(sent, value, other),
+        next: at + (bit as usize),
+        needless: needless | (sent & (v == pieces::unsigned8(other))),
+    }
+}
+
 // ---- the fields of a record
 
 struct LookOr {
@@ -149,18 +199,31 @@ struct PoseOr {
     needless: bool,
 }
 
-// A look, then effects, of which each is sent or not.
-fn every_look(d: &[u8], at: usize, mask: u16, b: Baseline) -> LookOr
+// A look, then effects, of which each is sent or not. Only the frame is sent often: where none of the others is, they are passed over at
+// once.
+fn look_or(d: &[u8], at: usize, mask: u16, o: Look) -> LookOr
     requires { ⌜ at + 5 ≤ length (now d) ⌝ }
-    ensures { λ r. ⌜ lookOf r ≡ spread (now (d .entry)) (lookSlots (b .look)) (bit mask) at ⌝ }
-    ensures place { λ r. ⌜ r .next ≡ passed (lookSlots (b .look)) (bit mask) at ⌝ }
-    ensures flag { λ r. ⌜ r .needless ≡ needlessIn (now (d .entry)) (lookSlots (b .look)) (bit mask) at false ⌝ }
+    ensures { λ r. ⌜ lookOf r ≡ spread (now (d .entry)) (lookSlots o) (bit mask) at ⌝ }
+    ensures place { λ r. ⌜ r .next ≡ passed (lookSlots o) (bit mask) at ⌝ }
+    ensures flag { λ r. ⌜ r .needless ≡ needlessIn (now (d .entry)) (lookSlots o) (bit mask) at false ⌝ }
     ensures near { λ r. ⌜ r .next ≤ at + 5 ⌝ }
 {
-    let m = byte_or(d, at, mask, 10, b.look.model, false);
-    let f = byte_or(d, m.next, mask, 6, b.look.frame, m.needless);
-    let c = byte_or(d, f.next, mask, 11, b.look.colormap, f.needless);
-    let s = byte_or(d, c.next, mask, 12, b.look.skin, c.needless);
+    if (mask >> 10) % 16 == 0 {
+        let f = byte_or(d, at, mask, 6, o.frame, false);
+        return LookOr {
+            model: o.model,
+            frame: f.value,
+            colormap: o.colormap,
+            skin: o.skin,
+            effects: 0,
+            next: f.next,
+            needless: f.needless,
+        };
+    }
+    let m = byte_or(d, at, mask, 10, o.model, false);
+    let f = byte_or(d, m.next, mask, 6, o.frame, m.needless);
+    let c = byte_or(d, f.next, mask, 11, o.colormap, f.needless);
+    let s = byte_or(d, c.next, mask, 12, o.skin, c.needless);
     let e = byte_or(d, s.next, mask, 13, 0, s.needless);
     LookOr {
         model: m.value,
@@ -173,27 +236,40 @@ fn every_look(d: &[u8], at: usize, mask: u16, b: Baseline) -> LookOr
     }
 }
 
-// The same. Of these only the frame is sent often: where none of the others is, they are passed over at once.
-fn look_or(d: &[u8], at: usize, mask: u16, b: Baseline) -> LookOr
+// The same without a jump for each.
+fn look_chosen(d: &[u8], at: usize, mask: u16, o: Look) -> LookOr
     requires { ⌜ at + 5 ≤ length (now d) ⌝ }
-    ensures { λ r. ⌜ lookOf r ≡ spread (now (d .entry)) (lookSlots (b .look)) (bit mask) at ⌝ }
-    ensures place { λ r. ⌜ r .next ≡ passed (lookSlots (b .look)) (bit mask) at ⌝ }
-    ensures flag { λ r. ⌜ r .needless ≡ needlessIn (now (d .entry)) (lookSlots (b .look)) (bit mask) at false ⌝ }
+    ensures { λ r. ⌜ lookOf r ≡ spread (now (d .entry)) (lookSlots o) (bit mask) at ⌝ }
+    ensures place { λ r. ⌜ r .next ≡ passed (lookSlots o) (bit mask) at ⌝ }
+    ensures flag { λ r. ⌜ r .needless ≡ needlessIn (now (d .entry)) (lookSlots o) (bit mask) at false ⌝ }
     ensures near { λ r. ⌜ r .next ≤ at + 5 ⌝ }
 {
     if (mask >> 10) % 16 == 0 {
-        let f = byte_or(d, at, mask, 6, b.look.frame, false);
+        let f = byte_chosen(d, at, mask, 6, o.frame, false);
         return LookOr {
-            model: b.look.model,
+            model: o.model,
             frame: f.value,
-            colormap: b.look.colormap,
-            skin: b.look.skin,
+            colormap: o.colormap,
+            skin: o.skin,
             effects: 0,
             next: f.next,
             needless: f.needless,
         };
     }
-    every_look(d, at, mask, b)
+    let m = byte_chosen(d, at, mask, 10, o.model, false);
+    let f = byte_chosen(d, m.next, mask, 6, o.frame, m.needless);
+    let c = byte_chosen(d, f.next, mask, 11, o.colormap, f.needless);
+    let s = byte_chosen(d, c.next, mask, 12, o.skin, c.needless);
+    let e = byte_chosen(d, s.next, mask, 13, 0, s.needless);
+    LookOr {
+        model: m.value,
+        frame: f.value,
+        colormap: c.value,
+        skin: s.value,
+        effects: e.value,
+        next: e.next,
+        needless: e.needless,
+    }
 }
 
 fn pose_or(d: &[u8], at: usize, mask: u16, other: Pose, needless: bool) -> PoseOr
@@ -332,9 +408,9 @@ pub fn update_fields(d: &[u8], at: usize, mask: u16, b: Baseline) -> RecordAt
     ensures place { λ r. ⌜ r .next ≡ passed (updateSlots (baselineNumbers b)) (bit mask) at ⌝ }
     ensures flag { λ r. ⌜ r .needless ≡ needlessIn (now (d .entry)) (updateSlots (baselineNumbers b)) (bit mask) at false ⌝ }
 {
-    let l = look_or(d, at, mask, b);
-    let p = pose_or(d, l.next, mask, b.pose, l.needless);
     let look = b.look;
+    let l = look_chosen(d, at, mask, look);
+    let p = pose_or(d, l.next, mask, b.pose, l.needless);
     let pose = p.pose;
     let mut record = Record {
         bit5: (mask >> 5) % 2 != 0,
@@ -361,9 +437,9 @@ pub fn needed_fields(d: &[u8], at: usize, mask: u16, b: Baseline) -> RecordAt
     ensures fields { λ r. ⌜ (r .needless ≡ false → recordValues (r .record) ≡ filledAt (now (d .entry)) (baselineNumbers b) mask at) ⌝ }
     ensures place { λ r. ⌜ (r .needless ≡ false → r .next ≡ passed (updateSlots (baselineNumbers b)) (bit mask) at) ⌝ }
 {
-    let l = look_or(d, at, mask, b);
-    let p = needed_pose(d, l.next, mask, b.pose, l.needless);
     let look = b.look;
+    let l = look_or(d, at, mask, look);
+    let p = needed_pose(d, l.next, mask, b.pose, l.needless);
     let pose = p.pose;
     let mut record = Record {
         bit5: (mask >> 5) % 2 != 0,
@@ -404,14 +480,14 @@ fn motion_or(d: &[u8], at: usize, mask: u16, needless: bool) -> MotionOr
     ensures flag { λ r. ⌜ r .needless ≡ needlessIn (now (d .entry)) (take 8 clientSlots) (bit mask) at needless ⌝ }
     ensures near { λ r. ⌜ r .next ≤ at + 8 ⌝ }
 {
-    let h = char_or(d, at, mask, 0, 22, needless);
-    let p = char_or(d, h.next, mask, 1, 0, h.needless);
+    let h = char_chosen(d, at, mask, 0, 22, needless);
+    let p = char_chosen(d, h.next, mask, 1, 0, h.needless);
     let p0 = char_or(d, p.next, mask, 2, 0, p.needless);
-    let v0 = char_or(d, p0.next, mask, 5, 0, p0.needless);
+    let v0 = char_chosen(d, p0.next, mask, 5, 0, p0.needless);
     let p1 = char_or(d, v0.next, mask, 3, 0, v0.needless);
-    let v1 = char_or(d, p1.next, mask, 6, 0, p1.needless);
+    let v1 = char_chosen(d, p1.next, mask, 6, 0, p1.needless);
     let p2 = char_or(d, v1.next, mask, 4, 0, v1.needless);
-    let v2 = char_or(d, p2.next, mask, 7, 0, p2.needless);
+    let v2 = char_chosen(d, p2.next, mask, 7, 0, p2.needless);
     let motion = Motion {
         view_height: h.value,
         pitch: p.value,
@@ -436,9 +512,9 @@ fn arms_or(d: &[u8], at: usize, mask: u16, needless: bool) -> ArmsOr
     ensures flag { λ r. ⌜ r .needless ≡ needlessIn (now (d .entry)) (drop 9 clientSlots) (bit mask) at needless ⌝ }
     ensures near { λ r. ⌜ r .next ≤ at + 3 ⌝ }
 {
-    let f = byte_or(d, at, mask, 12, 0, needless);
-    let a = byte_or(d, f.next, mask, 13, 0, f.needless);
-    let m = byte_or(d, a.next, mask, 14, 0, a.needless);
+    let f = byte_chosen(d, at, mask, 12, 0, needless);
+    let a = byte_chosen(d, f.next, mask, 13, 0, f.needless);
+    let m = byte_chosen(d, a.next, mask, 14, 0, a.needless);
     let arms = Arms {
         weapon_frame: f.value,
         armour: a.value,

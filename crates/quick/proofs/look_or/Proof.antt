@@ -1,14 +1,6 @@
--- `quick::look_or` meets its contract: where bits 10 to 13 are clear only the frame can be sent.
+-- `quick::look_or` meets its contract, where only the frame can be sent and where each can.
 -- Assumes nothing.
-use mathlib.Core.Path.{refl}
-use mathlib.Core.List.{[]}
-use mathlib.Core.Bool.{false}
-use native.Mathlib.Omega.{arith}
-use lib.ListN.{drop}
-use Rattle.dem.specs.Bytes.{bit}
-use Rattle.dem.specs.Masked.{slot}
-use Rattle.quick.specs.Spread.{lookSlots}
-use Rattle.quick.proofs.Fields.{four-clear, slot-then, slot-unsent}
+use Rattle.quick.proofs.Fields.{look-frame, look-each}
 use borrow.Author.Needs.{needs}
 use Rattle.quick.proofs.look_or.Statement.{statement}
 use Rattle.quick.proofs.look_or.Tie as tie
@@ -19,24 +11,42 @@ byte-or-requires c κs = search needs
 returns : tie.Need-returns
 returns c =
     let a = c .before .before .before .args in
-    let d = a .d .now in
-    let m = bit (a .mask) in
-    let o = a .b .look in
-    let ss = lookSlots o in
-    let f = c .byte-or in
-    let z = four-clear (a .mask) (c .before .if1 .taken) in
-    let p = slot-unsent d m (slot 10 1 (o .model)) (drop 1 ss) (a .at) false _ _ _ refl (z .0)
-    (slot-then d m (slot 6 1 (o .frame)) (drop 2 ss) (a .at) false (f .result .value) (f .result .next) (f .result .needless) _ _ _ refl (f .ensures .0, f .ensures .1 .0, f .ensures .1 .1 .0)
-    (slot-unsent d m (slot 11 1 (o .colormap)) (drop 3 ss) (f .result .next) (f .result .needless) _ _ _ refl (z .1)
-    (slot-unsent d m (slot 12 1 (o .skin)) (drop 4 ss) (f .result .next) (f .result .needless) _ _ _ refl (z .2)
-    (slot-unsent d m (slot 13 1 0) [] (f .result .next) (f .result .needless) [] (f .result .next) (f .result .needless) refl (z .3) (refl, refl, refl))))) in
-    (p .0, (p .1, (p .2, omega (arith, f .ensures .1 .1 .1))))
+    look-frame (a .d .now) (a .at) (a .mask) (a .o) (c .byte-or .result) (c .before .if1 .taken) (c .byte-or .ensures)
 
-every-look-requires : tie.Need-every-look-requires
-every-look-requires c κs = search needs
+byte-or-requires-2 : tie.Need-byte-or-requires-2
+byte-or-requires-2 c κs = search needs
+
+byte-or-requires-3 : tie.Need-byte-or-requires-3
+byte-or-requires-3 c κs = search needs
+
+byte-or-requires-4 : tie.Need-byte-or-requires-4
+byte-or-requires-4 c κs = search needs
+
+byte-or-requires-5 : tie.Need-byte-or-requires-5
+byte-or-requires-5 c κs = search needs
+
+byte-or-requires-6 : tie.Need-byte-or-requires-6
+byte-or-requires-6 c κs = search needs
 
 returns-2 : tie.Need-returns-2
-returns-2 c = search needs
+returns-2 c =
+    let a = c .before .before .before .before .before .before .before .args in
+    let p = c .before .before .before .before .byte-or2 in
+    let f = c .before .before .before .byte-or3 in
+    let k = c .before .before .byte-or4 in
+    let s = c .before .byte-or5 in
+    let e = c .byte-or6 in
+    look-each (a .d .now) (a .at) (a .mask) (a .o) (p .result) (f .result) (k .result) (s .result) (e .result) (p .ensures) (f .ensures) (k .ensures) (s .ensures) (e .ensures)
 
 pub look-or-spec : {M : Type 1} → statement M
-look-or-spec = tie.close (tie.spec byte-or-requires returns every-look-requires returns-2)
+look-or-spec =
+    tie.close
+    (tie.spec
+    byte-or-requires
+    returns
+    byte-or-requires-2
+    byte-or-requires-3
+    byte-or-requires-4
+    byte-or-requires-5
+    byte-or-requires-6
+    returns-2)

@@ -14,51 +14,51 @@ use borrow.Author.Needs.{needs}
 use Rattle.quick.proofs.motion_or.Statement.{statement}
 use Rattle.quick.proofs.motion_or.Tie as tie
 
+char-chosen-requires : tie.Need-char-chosen-requires
+char-chosen-requires c κs = search needs
+
+char-chosen-requires-2 : tie.Need-char-chosen-requires-2
+char-chosen-requires-2 c κs = search needs
+
 char-or-requires : tie.Need-char-or-requires
 char-or-requires c κs = search needs
+
+char-chosen-requires-3 : tie.Need-char-chosen-requires-3
+char-chosen-requires-3 c κs = search needs
 
 char-or-requires-2 : tie.Need-char-or-requires-2
 char-or-requires-2 c κs = search needs
 
+char-chosen-requires-4 : tie.Need-char-chosen-requires-4
+char-chosen-requires-4 c κs = search needs
+
 char-or-requires-3 : tie.Need-char-or-requires-3
-char-or-requires-3 c κs = search needs
-
-char-or-requires-4 : tie.Need-char-or-requires-4
-char-or-requires-4 c κs = search needs
-
-char-or-requires-5 : tie.Need-char-or-requires-5
-char-or-requires-5 c κs = search needs
-
-char-or-requires-6 : tie.Need-char-or-requires-6
-char-or-requires-6 c κs = search needs
-
-char-or-requires-7 : tie.Need-char-or-requires-7
-char-or-requires-7 c κs = (
+char-or-requires-3 c κs = (
   omega (
     arith,
     c .before .before .before .before .before .before .before .pre,
-    c .before .before .before .before .before .char-or .ensures .1 .1 .1,
-    c .before .before .before .before .char-or2 .ensures .1 .1 .1,
-    c .before .before .before .char-or3 .ensures .1 .1 .1,
-    c .before .before .char-or4 .ensures .1 .1 .1,
-    c .before .char-or5 .ensures .1 .1 .1,
-    c .char-or6 .ensures .1 .1 .1,
+    c .before .before .before .before .before .char-chosen .ensures .1 .1 .1,
+    c .before .before .before .before .char-chosen2 .ensures .1 .1 .1,
+    c .before .before .before .char-or .ensures .1 .1 .1,
+    c .before .before .char-chosen3 .ensures .1 .1 .1,
+    c .before .char-or2 .ensures .1 .1 .1,
+    c .char-chosen4 .ensures .1 .1 .1,
   ),
   omega arith,
 )
 
-char-or-requires-8 : tie.Need-char-or-requires-8
-char-or-requires-8 c κs = (
+char-chosen-requires-5 : tie.Need-char-chosen-requires-5
+char-chosen-requires-5 c κs = (
   omega (
     arith,
     c .before .before .before .before .before .before .before .before .pre,
-    c .before .before .before .before .before .before .char-or .ensures .1 .1 .1,
-    c .before .before .before .before .before .char-or2 .ensures .1 .1 .1,
-    c .before .before .before .before .char-or3 .ensures .1 .1 .1,
-    c .before .before .before .char-or4 .ensures .1 .1 .1,
-    c .before .before .char-or5 .ensures .1 .1 .1,
-    c .before .char-or6 .ensures .1 .1 .1,
-    c .char-or7 .ensures .1 .1 .1,
+    c .before .before .before .before .before .before .char-chosen .ensures .1 .1 .1,
+    c .before .before .before .before .before .char-chosen2 .ensures .1 .1 .1,
+    c .before .before .before .before .char-or .ensures .1 .1 .1,
+    c .before .before .before .char-chosen3 .ensures .1 .1 .1,
+    c .before .before .char-or2 .ensures .1 .1 .1,
+    c .before .char-chosen4 .ensures .1 .1 .1,
+    c .char-or3 .ensures .1 .1 .1,
   ),
   omega arith,
 )
@@ -69,14 +69,14 @@ returns c =
     let d = a .d .now in
     let m = bit (a .mask) in
     let ss = take 8 clientSlots in
-    let f1 = c .before .before .before .before .before .before .before .before .before .before .before .before .before .before .before .char-or in
-    let f2 = c .before .before .before .before .before .before .before .before .before .before .before .before .before .before .char-or2 in
-    let f3 = c .before .before .before .before .before .before .before .before .before .before .before .before .before .char-or3 in
-    let f4 = c .before .before .before .before .before .before .before .before .before .before .before .before .char-or4 in
-    let f5 = c .before .before .before .before .before .before .before .before .before .before .before .char-or5 in
-    let f6 = c .before .before .before .before .before .before .before .before .before .before .char-or6 in
-    let f7 = c .before .before .before .before .before .before .before .before .before .char-or7 in
-    let f8 = c .before .before .before .before .before .before .before .before .char-or8 in
+    let f1 = c .before .before .before .before .before .before .before .before .before .before .before .before .before .before .before .char-chosen in
+    let f2 = c .before .before .before .before .before .before .before .before .before .before .before .before .before .before .char-chosen2 in
+    let f3 = c .before .before .before .before .before .before .before .before .before .before .before .before .before .char-or in
+    let f4 = c .before .before .before .before .before .before .before .before .before .before .before .before .char-chosen3 in
+    let f5 = c .before .before .before .before .before .before .before .before .before .before .before .char-or2 in
+    let f6 = c .before .before .before .before .before .before .before .before .before .before .char-chosen4 in
+    let f7 = c .before .before .before .before .before .before .before .before .before .char-or3 in
+    let f8 = c .before .before .before .before .before .before .before .before .char-chosen5 in
     let p = slot-then d m (slot 0 1 defaultViewHeight) (drop 1 ss) (a .at) (a .needless) _ (f1 .result .next) (f1 .result .needless) _ (f8 .result .next) (f8 .result .needless) refl (same-bits w8 (f1 .result .value) _ (record { sfits = c .before .before .before .before .before .before .before .struct-told .given .0 .1 }) (f1 .ensures .0), f1 .ensures .1 .0, f1 .ensures .1 .1 .0)
     (slot-then d m (slot 1 1 0) (drop 2 ss) (f1 .result .next) (f1 .result .needless) _ (f2 .result .next) (f2 .result .needless) _ (f8 .result .next) (f8 .result .needless) refl (same-bits w8 (f2 .result .value) _ (record { sfits = c .before .before .before .before .before .before .struct-told2 .given .0 .1 }) (f2 .ensures .0), f2 .ensures .1 .0, f2 .ensures .1 .1 .0)
     (slot-then d m (slot 2 1 0) (drop 3 ss) (f2 .result .next) (f2 .result .needless) _ (f3 .result .next) (f3 .result .needless) _ (f8 .result .next) (f8 .result .needless) refl (same-bits w8 (f3 .result .value) _ (record { sfits = c .before .before .before .before .before .struct-told3 .given .0 .1 }) (f3 .ensures .0), f3 .ensures .1 .0, f3 .ensures .1 .1 .0)
@@ -91,12 +91,12 @@ pub motion-or-spec : {M : Type 1} → statement M
 motion-or-spec =
     tie.close
     (tie.spec
+    char-chosen-requires
+    char-chosen-requires-2
     char-or-requires
+    char-chosen-requires-3
     char-or-requires-2
+    char-chosen-requires-4
     char-or-requires-3
-    char-or-requires-4
-    char-or-requires-5
-    char-or-requires-6
-    char-or-requires-7
-    char-or-requires-8
+    char-chosen-requires-5
     returns)

@@ -26,8 +26,8 @@ returns c =
     let d = a .d .now in
     let m = bit (a .mask) in
     let five = bit-test (a .mask) 5 in
-    let l = c .before .before .before .before .before .before .before .look-or in
-    let p = c .before .before .before .before .before .before .needed-pose in
+    let l = c .before .before .before .before .before .before .look-or in
+    let p = c .before .before .before .before .before .needed-pose in
     let then : (vs : List Value) (end : ℕ) → Spreads d (poseSlots (a .b .pose)) m (l .result .next) (l .result .needless) vs end (p .result .needless)
     → Spreads d (lookSlots (a .b .look) ++ poseSlots (a .b .pose)) m (a .at) false (lookOf (l .result) ++ vs) end (p .result .needless) =
     λ vs end. slots-then d m (lookSlots (a .b .look)) (poseSlots (a .b .pose)) (a .at) false (lookOf (l .result)) (l .result .next) (l .result .needless) vs end (p .result .needless)

@@ -12,8 +12,8 @@ use borrow.Author.Needs.{needs}
 use Rattle.quick.proofs.update_fields.Statement.{statement}
 use Rattle.quick.proofs.update_fields.Tie as tie
 
-look-or-requires : tie.Need-look-or-requires
-look-or-requires c κs = search needs
+look-chosen-requires : tie.Need-look-chosen-requires
+look-chosen-requires c κs = search needs
 
 pose-or-requires : tie.Need-pose-or-requires
 pose-or-requires c κs = search needs
@@ -22,12 +22,12 @@ returns : tie.Need-returns
 returns c =
     let a = c .before .before .before .before .before .before .before .before .before .args in
     let five = bit-test (a .mask) 5 in
-    let l = c .before .before .before .before .before .before .before .look-or in
-    let p = c .before .before .before .before .before .before .pose-or in
+    let l = c .before .before .before .before .before .before .look-chosen in
+    let p = c .before .before .before .before .before .pose-or in
     let q = slots-then (a .d .now) (bit (a .mask)) (lookSlots (a .b .look)) (poseSlots (a .b .pose)) (a .at) false
     (lookOf (l .result)) (l .result .next) (l .result .needless) (poseValues (p .result .pose)) (p .result .next) (p .result .needless)
     (l .ensures .0, l .ensures .1 .0, l .ensures .1 .1 .0) (p .ensures .0, p .ensures .1 .0, p .ensures .1 .1) in
     ((λ i. number (bitOf (five i)) ∷ q .0 i), (q .1, q .2))
 
 pub update-fields-spec : {M : Type 1} → statement M
-update-fields-spec = tie.close (tie.spec look-or-requires pose-or-requires returns)
+update-fields-spec = tie.close (tie.spec look-chosen-requires pose-or-requires returns)

@@ -319,36 +319,36 @@ fn left_pose() -> PoseOr
 }
 
 // The same as `pose_or`, but left at the first field sent needlessly; pose and place are an answer only where there is none.
-fn needed_pose(d: &[u8], at: usize, mask: u16, other: Pose, needless: bool) -> PoseOr
+fn needed_pose(d: &[u8], at: usize, mask: u16, o: Pose, needless: bool) -> PoseOr
     requires { ⌜ at + 9 ≤ length (now d) ⌝ }
-    ensures { λ r. ⌜ r .needless ≡ needlessIn (now (d .entry)) (poseSlots other) (bit mask) at needless ⌝ }
-    ensures pose { λ r. ⌜ (r .needless ≡ false → poseValues (r .pose) ≡ spread (now (d .entry)) (poseSlots other) (bit mask) at) ⌝ }
-    ensures place { λ r. ⌜ (r .needless ≡ false → r .next ≡ passed (poseSlots other) (bit mask) at) ⌝ }
+    ensures { λ r. ⌜ r .needless ≡ needlessIn (now (d .entry)) (poseSlots o) (bit mask) at needless ⌝ }
+    ensures pose { λ r. ⌜ (r .needless ≡ false → poseValues (r .pose) ≡ spread (now (d .entry)) (poseSlots o) (bit mask) at) ⌝ }
+    ensures place { λ r. ⌜ (r .needless ≡ false → r .next ≡ passed (poseSlots o) (bit mask) at) ⌝ }
 {
     if needless {
         return left_pose();
     }
-    let x = short_or(d, at, mask, 1, other.x, needless);
+    let x = short_or(d, at, mask, 1, o.x, needless);
     if x.needless {
         return left_pose();
     }
-    let a = char_or(d, x.next, mask, 8, other.angle0, x.needless);
+    let a = char_or(d, x.next, mask, 8, o.angle0, x.needless);
     if a.needless {
         return left_pose();
     }
-    let y = short_or(d, a.next, mask, 2, other.y, a.needless);
+    let y = short_or(d, a.next, mask, 2, o.y, a.needless);
     if y.needless {
         return left_pose();
     }
-    let b = char_or(d, y.next, mask, 4, other.angle1, y.needless);
+    let b = char_or(d, y.next, mask, 4, o.angle1, y.needless);
     if b.needless {
         return left_pose();
     }
-    let z = short_or(d, b.next, mask, 3, other.z, b.needless);
+    let z = short_or(d, b.next, mask, 3, o.z, b.needless);
     if z.needless {
         return left_pose();
     }
-    let c = char_or(d, z.next, mask, 9, other.angle2, z.needless);
+    let c = char_or(d, z.next, mask, 9, o.angle2, z.needless);
     let pose = Pose {
         x: x.value,
         angle0: a.value,

@@ -116,6 +116,16 @@ pub fn normal_without_shuffles(input: &[u8], out: &mut Vec<u8>) -> Result<Summar
     Ok(Summary { track, blocks, messages })
 }
 
+/// The code without shuffles, for a benchmark of code for any x86-64 processor.
+#[doc(hidden)]
+pub fn summarise_without_shuffles(input: &[u8]) -> Result<Summary, Refusal> {
+    let (track, start) = track_line(input)?;
+    let mut scene = FastScene::boxed();
+    let pass = Pass { input, scene: &mut scene, output: &mut Discard };
+    let (blocks, messages) = { pass }.run::<false>(start)?;
+    Ok(Summary { track, blocks, messages })
+}
+
 struct Pass<'a, O> {
     input: &'a [u8],
     scene: &'a mut FastScene,

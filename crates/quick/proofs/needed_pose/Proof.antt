@@ -25,40 +25,40 @@ abbrev behind-is : Begun → List Slot → ℕ → Bool → Bool
 behind-is s ss at n = needlessIn (s .args .d .now) ss (bit (s .args .mask)) at n
 
 abbrev whole : Begun → Bool
-whole s = behind-is s (poseSlots (s .args .other)) (s .args .at) (s .args .needless)
+whole s = behind-is s (poseSlots (s .args .o)) (s .args .at) (s .args .needless)
 
-flag-x : (c : tie.After-short-or) → behind-is (c .before .before .before .before) (drop 1 (poseSlots (c .before .before .before .before .args .other))) (c .short-or .result .next) (c .short-or .result .needless) ≡ whole (c .before .before .before .before)
+flag-x : (c : tie.After-short-or) → behind-is (c .before .before .before .before) (drop 1 (poseSlots (c .before .before .before .before .args .o))) (c .short-or .result .next) (c .short-or .result .needless) ≡ whole (c .before .before .before .before)
 flag-x c =
     let s = c .before .before .before .before in
     let e = c .short-or .ensures in
-    signed-flag w16 (s .args .d .now) (bit (s .args .mask)) 1 2 (drop 1 (poseSlots (s .args .other))) (s .args .at) (s .args .needless) (s .args .other .x) _ _ _ (c .before .struct-told .given .0 .1) (e .0, e .1 .0, e .1 .1 .0)
+    signed-flag w16 (s .args .d .now) (bit (s .args .mask)) 1 2 (drop 1 (poseSlots (s .args .o))) (s .args .at) (s .args .needless) (s .args .o .x) _ _ _ (c .before .struct-told .given .0 .1) (e .0, e .1 .0, e .1 .1 .0)
 
-flag-a : (c : tie.After-char-or) → behind-is (c .before .before .before .before .before .before .before) (drop 2 (poseSlots (c .before .before .before .before .before .before .before .args .other))) (c .char-or .result .next) (c .char-or .result .needless) ≡ whole (c .before .before .before .before .before .before .before)
+flag-a : (c : tie.After-char-or) → behind-is (c .before .before .before .before .before .before .before) (drop 2 (poseSlots (c .before .before .before .before .before .before .before .args .o))) (c .char-or .result .next) (c .char-or .result .needless) ≡ whole (c .before .before .before .before .before .before .before)
 flag-a c =
     let s = c .before .before .before .before .before .before .before in
     let e = c .char-or .ensures in
-    signed-flag w8 (s .args .d .now) (bit (s .args .mask)) 8 1 (drop 2 (poseSlots (s .args .other))) (c .before .before .before .short-or .result .next) (c .before .before .before .short-or .result .needless) (s .args .other .angle0) _ _ _ (c .before .struct-told2 .given .1 .0 .1) (e .0, e .1 .0, e .1 .1 .0)
+    signed-flag w8 (s .args .d .now) (bit (s .args .mask)) 8 1 (drop 2 (poseSlots (s .args .o))) (c .before .before .before .short-or .result .next) (c .before .before .before .short-or .result .needless) (s .args .o .angle0) _ _ _ (c .before .struct-told2 .given .1 .0 .1) (e .0, e .1 .0, e .1 .1 .0)
     ∙ flag-x (c .before .before .before)
 
-flag-y : (c : tie.After-short-or2) → behind-is (c .before .before .before .before .before .before .before .before .before .before) (drop 3 (poseSlots (c .before .before .before .before .before .before .before .before .before .before .args .other))) (c .short-or2 .result .next) (c .short-or2 .result .needless) ≡ whole (c .before .before .before .before .before .before .before .before .before .before)
+flag-y : (c : tie.After-short-or2) → behind-is (c .before .before .before .before .before .before .before .before .before .before) (drop 3 (poseSlots (c .before .before .before .before .before .before .before .before .before .before .args .o))) (c .short-or2 .result .next) (c .short-or2 .result .needless) ≡ whole (c .before .before .before .before .before .before .before .before .before .before)
 flag-y c =
     let s = c .before .before .before .before .before .before .before .before .before .before in
     let e = c .short-or2 .ensures in
-    signed-flag w16 (s .args .d .now) (bit (s .args .mask)) 2 2 (drop 3 (poseSlots (s .args .other))) (c .before .before .before .char-or .result .next) (c .before .before .before .char-or .result .needless) (s .args .other .y) _ _ _ (c .before .struct-told3 .given .1 .1 .0 .1) (e .0, e .1 .0, e .1 .1 .0)
+    signed-flag w16 (s .args .d .now) (bit (s .args .mask)) 2 2 (drop 3 (poseSlots (s .args .o))) (c .before .before .before .char-or .result .next) (c .before .before .before .char-or .result .needless) (s .args .o .y) _ _ _ (c .before .struct-told3 .given .1 .1 .0 .1) (e .0, e .1 .0, e .1 .1 .0)
     ∙ flag-a (c .before .before .before)
 
-flag-b : (c : tie.After-char-or2) → behind-is (c .before .before .before .before .before .before .before .before .before .before .before .before .before) (drop 4 (poseSlots (c .before .before .before .before .before .before .before .before .before .before .before .before .before .args .other))) (c .char-or2 .result .next) (c .char-or2 .result .needless) ≡ whole (c .before .before .before .before .before .before .before .before .before .before .before .before .before)
+flag-b : (c : tie.After-char-or2) → behind-is (c .before .before .before .before .before .before .before .before .before .before .before .before .before) (drop 4 (poseSlots (c .before .before .before .before .before .before .before .before .before .before .before .before .before .args .o))) (c .char-or2 .result .next) (c .char-or2 .result .needless) ≡ whole (c .before .before .before .before .before .before .before .before .before .before .before .before .before)
 flag-b c =
     let s = c .before .before .before .before .before .before .before .before .before .before .before .before .before in
     let e = c .char-or2 .ensures in
-    signed-flag w8 (s .args .d .now) (bit (s .args .mask)) 4 1 (drop 4 (poseSlots (s .args .other))) (c .before .before .before .short-or2 .result .next) (c .before .before .before .short-or2 .result .needless) (s .args .other .angle1) _ _ _ (c .before .struct-told4 .given .1 .1 .1 .0 .1) (e .0, e .1 .0, e .1 .1 .0)
+    signed-flag w8 (s .args .d .now) (bit (s .args .mask)) 4 1 (drop 4 (poseSlots (s .args .o))) (c .before .before .before .short-or2 .result .next) (c .before .before .before .short-or2 .result .needless) (s .args .o .angle1) _ _ _ (c .before .struct-told4 .given .1 .1 .1 .0 .1) (e .0, e .1 .0, e .1 .1 .0)
     ∙ flag-y (c .before .before .before)
 
-flag-z : (c : tie.After-short-or3) → behind-is (c .before .before .before .before .before .before .before .before .before .before .before .before .before .before .before .before) (drop 5 (poseSlots (c .before .before .before .before .before .before .before .before .before .before .before .before .before .before .before .before .args .other))) (c .short-or3 .result .next) (c .short-or3 .result .needless) ≡ whole (c .before .before .before .before .before .before .before .before .before .before .before .before .before .before .before .before)
+flag-z : (c : tie.After-short-or3) → behind-is (c .before .before .before .before .before .before .before .before .before .before .before .before .before .before .before .before) (drop 5 (poseSlots (c .before .before .before .before .before .before .before .before .before .before .before .before .before .before .before .before .args .o))) (c .short-or3 .result .next) (c .short-or3 .result .needless) ≡ whole (c .before .before .before .before .before .before .before .before .before .before .before .before .before .before .before .before)
 flag-z c =
     let s = c .before .before .before .before .before .before .before .before .before .before .before .before .before .before .before .before in
     let e = c .short-or3 .ensures in
-    signed-flag w16 (s .args .d .now) (bit (s .args .mask)) 3 2 (drop 5 (poseSlots (s .args .other))) (c .before .before .before .char-or2 .result .next) (c .before .before .before .char-or2 .result .needless) (s .args .other .z) _ _ _ (c .before .struct-told5 .given .1 .1 .1 .1 .0 .1) (e .0, e .1 .0, e .1 .1 .0)
+    signed-flag w16 (s .args .d .now) (bit (s .args .mask)) 3 2 (drop 5 (poseSlots (s .args .o))) (c .before .before .before .char-or2 .result .next) (c .before .before .before .char-or2 .result .needless) (s .args .o .z) _ _ _ (c .before .struct-told5 .given .1 .1 .1 .1 .0 .1) (e .0, e .1 .0, e .1 .1 .0)
     ∙ flag-b (c .before .before .before)
 
 -- Where one is, it is so of all, and nothing else is promised.
@@ -73,7 +73,7 @@ left-pose-requires c κs = search needs
 returns : tie.Need-returns
 returns c =
     let s = c .before .before .before in
-    let p = left s (poseSlots (s .args .other)) (s .args .at) (s .args .needless) (c .left-pose .result) (c .left-pose .ensures) (c .before .if1 .taken) refl in
+    let p = left s (poseSlots (s .args .o)) (s .args .at) (s .args .needless) (c .left-pose .result) (c .left-pose .ensures) (c .before .if1 .taken) refl in
     (p .0, ((λ z. absurd (p .1 z)), (λ z. absurd (p .1 z))))
 
 short-or-requires : tie.Need-short-or-requires
@@ -86,7 +86,7 @@ returns-2 : tie.Need-returns-2
 returns-2 c =
     let s = c .before .before .before .before .before .before in
     let f = c .before .before .short-or .result in
-    let p = left s (drop 1 (poseSlots (s .args .other))) (f .next) (f .needless) (c .left-pose2 .result) (c .left-pose2 .ensures) (c .before .if2 .taken) (flag-x (c .before .before)) in
+    let p = left s (drop 1 (poseSlots (s .args .o))) (f .next) (f .needless) (c .left-pose2 .result) (c .left-pose2 .ensures) (c .before .if2 .taken) (flag-x (c .before .before)) in
     (p .0, ((λ z. absurd (p .1 z)), (λ z. absurd (p .1 z))))
 
 char-or-requires : tie.Need-char-or-requires
@@ -99,7 +99,7 @@ returns-3 : tie.Need-returns-3
 returns-3 c =
     let s = c .before .before .before .before .before .before .before .before .before in
     let f = c .before .before .char-or .result in
-    let p = left s (drop 2 (poseSlots (s .args .other))) (f .next) (f .needless) (c .left-pose3 .result) (c .left-pose3 .ensures) (c .before .if3 .taken) (flag-a (c .before .before)) in
+    let p = left s (drop 2 (poseSlots (s .args .o))) (f .next) (f .needless) (c .left-pose3 .result) (c .left-pose3 .ensures) (c .before .if3 .taken) (flag-a (c .before .before)) in
     (p .0, ((λ z. absurd (p .1 z)), (λ z. absurd (p .1 z))))
 
 short-or-requires-2 : tie.Need-short-or-requires-2
@@ -112,7 +112,7 @@ returns-4 : tie.Need-returns-4
 returns-4 c =
     let s = c .before .before .before .before .before .before .before .before .before .before .before .before in
     let f = c .before .before .short-or2 .result in
-    let p = left s (drop 3 (poseSlots (s .args .other))) (f .next) (f .needless) (c .left-pose4 .result) (c .left-pose4 .ensures) (c .before .if4 .taken) (flag-y (c .before .before)) in
+    let p = left s (drop 3 (poseSlots (s .args .o))) (f .next) (f .needless) (c .left-pose4 .result) (c .left-pose4 .ensures) (c .before .if4 .taken) (flag-y (c .before .before)) in
     (p .0, ((λ z. absurd (p .1 z)), (λ z. absurd (p .1 z))))
 
 char-or-requires-2 : tie.Need-char-or-requires-2
@@ -125,7 +125,7 @@ returns-5 : tie.Need-returns-5
 returns-5 c =
     let s = c .before .before .before .before .before .before .before .before .before .before .before .before .before .before .before in
     let f = c .before .before .char-or2 .result in
-    let p = left s (drop 4 (poseSlots (s .args .other))) (f .next) (f .needless) (c .left-pose5 .result) (c .left-pose5 .ensures) (c .before .if5 .taken) (flag-b (c .before .before)) in
+    let p = left s (drop 4 (poseSlots (s .args .o))) (f .next) (f .needless) (c .left-pose5 .result) (c .left-pose5 .ensures) (c .before .if5 .taken) (flag-b (c .before .before)) in
     (p .0, ((λ z. absurd (p .1 z)), (λ z. absurd (p .1 z))))
 
 short-or-requires-3 : tie.Need-short-or-requires-3
@@ -138,7 +138,7 @@ returns-6 : tie.Need-returns-6
 returns-6 c =
     let s = c .before .before .before .before .before .before .before .before .before .before .before .before .before .before .before .before .before .before in
     let f = c .before .before .short-or3 .result in
-    let p = left s (drop 5 (poseSlots (s .args .other))) (f .next) (f .needless) (c .left-pose6 .result) (c .left-pose6 .ensures) (c .before .if6 .taken) (flag-z (c .before .before)) in
+    let p = left s (drop 5 (poseSlots (s .args .o))) (f .next) (f .needless) (c .left-pose6 .result) (c .left-pose6 .ensures) (c .before .if6 .taken) (flag-z (c .before .before)) in
     (p .0, ((λ z. absurd (p .1 z)), (λ z. absurd (p .1 z))))
 
 char-or-requires-3 : tie.Need-char-or-requires-3
@@ -154,7 +154,7 @@ returns-7 c =
     let b = c .before .before .before .before .before .before .before .before .before .before .before .before .char-or2 in
     let z = c .before .before .before .before .before .before .before .before .before .short-or3 in
     let c′ = c .before .before .before .before .before .before .char-or3 in
-    let p = pose-each (arg .d .now) (bit (arg .mask)) (arg .other) (arg .at) (arg .needless) (x .result .value) (a .result .value) (y .result .value) (b .result .value) (z .result .value) (c′ .result .value)
+    let p = pose-each (arg .d .now) (bit (arg .mask)) (arg .o) (arg .at) (arg .needless) (x .result .value) (a .result .value) (y .result .value) (b .result .value) (z .result .value) (c′ .result .value)
     (x .result .next) (a .result .next) (y .result .next) (b .result .next) (z .result .next) (c′ .result .next)
     (x .result .needless) (a .result .needless) (y .result .needless) (b .result .needless) (z .result .needless) (c′ .result .needless)
     (c .before .before .before .before .before .struct-told7 .given .0 .1, fo .0 .1, (x .ensures .0, x .ensures .1 .0, x .ensures .1 .1 .0))

@@ -13,7 +13,7 @@ use mir.Val.{Fits}
 use lib.ListN.{length, take, drop, getD, set, replicate, length-take, length-drop}
 use lib.Seq.{length-take-le, getD-take}
 use lib.Dec.{ltb}
-use borrow.Author.Tests.{leb-true, ltb-true}
+use borrow.Author.Tests.{leb-true, ltb-true, not-true}
 use mathlib.Core.Logic.{_≢_}
 use mathlib.Core.List.{List, [], _∷_, _++_}
 use Rattle.dem.specs.Bytes.{Bytes, Result, refused, leWrite, bit}
@@ -50,7 +50,7 @@ use Rattle.blocks.specs.Runs.{Told, refusedIn, answered, Wrote, stored, 
 use Rattle.blocks.specs.declared.WrittenAt.{WrittenAt}
 use Rattle.blocks.specs.Marks.{marked}
 use Rattle.blocks.proofs.Marks.{Within, within-more, within-bits, marked-set, marked-none, marked-bits, Before, before-later, before-marked, before-timed}
-use Rattle.blocks.proofs.SoFar.{and-false, or-false, soFar, far-begins, Grown, grown-kept, grown-behind}
+use Rattle.blocks.proofs.SoFar.{and-false, soFar, far-begins, Grown, grown-kept, grown-behind}
 use Rattle.blocks.proofs.Turns.{Moved, before-stop, head-refused, head-found, moved-less, moved-short, moved-range, blockBytes, block-length, put-block-there, put-length, closed, closed-short, closed-fits, inside, on-refused, on-moved, on-end, run-over, run-refused, run-opened}
 use Rattle.blocks.proofs.Arms.{held, noBaseline, quick-moved, kept-form, timed, ended-refused, kind-parsed, parsed-refused, update-parsed, update-known, update-moved, time-moved, ClientRead, client-read, kept-client, client-moved, sound-moved, passed-parsed, passed-moved, other-parsed, baseline-known, baseline-moved, serverinfo-moved, cleared-present, rest-moved}
 use Rattle.blocks.proofs.write_blocks.Statement.{statement}
@@ -431,7 +431,7 @@ AtWritten = tie.At-loop3 Inv-loop3 μ-loop3 Inv-loop4 μ-loop4 Inv-loop2 μ-loop
 abbrev AtRead : Type 0
 AtRead = tie.At-loop4 Inv-loop3 μ-loop3 Inv-loop4 μ-loop4 Inv-loop2 μ-loop2 Inv-loop μ-loop
 
--- The block, and where the loop over messages was left.
+-- Where the loop over messages stands, and its block.
 abbrev turn : AtWritten → tie.At-loop2 Inv-loop3 μ-loop3 Inv-loop4 μ-loop4 Inv-loop2 μ-loop2 Inv-loop μ-loop
 turn c = c .before .before .before
 
@@ -504,23 +504,23 @@ writePlace c =
     placeIn (c .before) (l .records) (l .marks) (l .messages) (l .at) (reached-written (c .before)) (omega (arith, to-write c, body-long (opening (c .before))))
 
 -- Its head and its fields were read, and it ends inside the block.
-abbrev Needed : Type 0
-Needed = tie.After-record Inv-loop3 μ-loop3 Inv-loop4 μ-loop4 Inv-loop2 μ-loop2 Inv-loop μ-loop
+abbrev FoundWritten : Type 0
+FoundWritten = tie.After-record Inv-loop3 μ-loop3 Inv-loop4 μ-loop4 Inv-loop2 μ-loop2 Inv-loop μ-loop
 
-abbrev writing : Needed → ToWrite
+abbrev writing : FoundWritten → ToWrite
 writing c = c .before .before .before .before .before .before .before .before .before .before .before
 
-abbrev headWritten : Needed → UpdateHead
+abbrev headWritten : FoundWritten → UpdateHead
 headWritten c = c .before .before .before .before .before .before .before .before .update-head .result
 
-abbrev fieldsWritten : Needed → RecordAt
+abbrev fieldsWritten : FoundWritten → RecordAt
 fieldsWritten c = c .before .before .before .needed-fields .result
 
-abbrev kindWritten : Needed → ℕ
+abbrev kindWritten : FoundWritten → ℕ
 kindWritten c = kind (writing c .before) (writing c .before .loop3 .at)
 
-needs-all : (c : Needed) → Loaded (writePlace (writing c)) (kindWritten c) (headWritten c) (fieldsWritten c)
-needs-all c =
+found-written : (c : FoundWritten) → Loaded (writePlace (writing c)) (kindWritten c) (headWritten c) (fieldsWritten c)
+found-written c =
     let f = c .before .before .before .needed-fields in
     let z = c .before .before .if8 .left in
     record {
@@ -536,10 +536,6 @@ needs-all c =
     }
 
 -- ---- an update that is only read
-
-not-true : (b : Bool) → not b ≡ true → b ≡ false
-not-true true e = absurd (true≢false (sym e))
-not-true false e = refl
 
 abbrev ToRead : Type 0
 ToRead = tie.In-loop4 Inv-loop3 μ-loop3 Inv-loop4 μ-loop4 Inv-loop2 μ-loop2 Inv-loop μ-loop
@@ -561,23 +557,23 @@ readPlace c =
     let l = c .before .loop4 in
     placeIn (behindWritten c) (l .records) (l .marks) (l .messages) (l .at) (reached-read (c .before)) (omega (arith, to-read c .1, body-long (opening (behindWritten c))))
 
-abbrev Found : Type 0
-Found = tie.After-record2 Inv-loop3 μ-loop3 Inv-loop4 μ-loop4 Inv-loop2 μ-loop2 Inv-loop μ-loop
+abbrev FoundRead : Type 0
+FoundRead = tie.After-record2 Inv-loop3 μ-loop3 Inv-loop4 μ-loop4 Inv-loop2 μ-loop2 Inv-loop μ-loop
 
-abbrev reading : Found → ToRead
+abbrev reading : FoundRead → ToRead
 reading c = c .before .before .before .before .before .before .before .before .before
 
-abbrev headRead : Found → UpdateHead
+abbrev headRead : FoundRead → UpdateHead
 headRead c = c .before .before .before .before .before .before .update-head2 .result
 
-abbrev fieldsRead : Found → RecordAt
+abbrev fieldsRead : FoundRead → RecordAt
 fieldsRead c = c .before .before .update-fields .result
 
-abbrev kindRead : Found → ℕ
+abbrev kindRead : FoundRead → ℕ
 kindRead c = kind (behindWritten (reading c)) (reading c .before .loop4 .at)
 
-found : (c : Found) → Loaded (readPlace (reading c)) (kindRead c) (headRead c) (fieldsRead c)
-found c =
+found-read : (c : FoundRead) → Loaded (readPlace (reading c)) (kindRead c) (headRead c) (fieldsRead c)
+found-read c =
     let f = c .before .before .update-fields in
     record {
       there = kind-there (behindWritten (reading c)) (reading c .before .loop4 .at) (to-read (reading c) .1);
@@ -1113,29 +1109,29 @@ needed-fields-requires : tie.Need-needed-fields-requires Inv-loop3 μ-loop3 Inv-
 needed-fields-requires c κs = omega (arith, c .before .before .before .before .update-head .ensures .1, to-write (c .before .before .before .before .before .before .before))
 
 mul-records : tie.Need-mul-records Inv-loop3 μ-loop3 Inv-loop4 μ-loop4 Inv-loop2 μ-loop2 Inv-loop μ-loop
-mul-records c = omega (arith, needs-all c .known)
+mul-records c = omega (arith, found-written c .known)
 
 array-set-from-records : tie.Need-array-set-from-records Inv-loop3 μ-loop3 Inv-loop4 μ-loop4 Inv-loop2 μ-loop2 Inv-loop μ-loop
-array-set-from-records c = needs-all c .known
+array-set-from-records c = found-written c .known
 
 mul-marks : tie.Need-mul-marks Inv-loop3 μ-loop3 Inv-loop4 μ-loop4 Inv-loop2 μ-loop2 Inv-loop μ-loop
-mul-marks c = omega (arith, needs-all c .known)
+mul-marks c = omega (arith, found-written c .known)
 
 array-write-marks : tie.Need-array-write-marks Inv-loop3 μ-loop3 Inv-loop4 μ-loop4 Inv-loop2 μ-loop2 Inv-loop μ-loop
-array-write-marks c = needs-all c .known
+array-write-marks c = found-written c .known
 
 add-messages : tie.Need-add-messages Inv-loop3 μ-loop3 Inv-loop4 μ-loop4 Inv-loop2 μ-loop2 Inv-loop μ-loop
 add-messages c = counts (writePlace (writing c))
 
 loop3-less : tie.Need-loop3-less Inv-loop3 μ-loop3 Inv-loop4 μ-loop4 Inv-loop2 μ-loop2 Inv-loop μ-loop
-loop3-less c = less (writePlace (writing c)) _ (fieldsWritten c .next) _ (at-quick (writePlace (writing c)) (kindWritten c) (headWritten c) (fieldsWritten c) (needs-all c))
+loop3-less c = less (writePlace (writing c)) _ (fieldsWritten c .next) _ (at-quick (writePlace (writing c)) (kindWritten c) (headWritten c) (fieldsWritten c) (found-written c))
 
 loop3-again : tie.Need-loop3-again Inv-loop3 μ-loop3 Inv-loop4 μ-loop4 Inv-loop2 μ-loop2 Inv-loop μ-loop
 loop3-again c =
     let i = writing c .before .loop3 .inv in
     let p = writePlace (writing c) in
-    let q = loaded-on p (kindWritten c) (headWritten c) (fieldsWritten c) (needs-all c) (λ on. (c .before .before .if8 .left, c .before .before .before .before .before .if7 .left)) in
-    ((q .0, q .1, q .2, q .3, i .0 .4 ∙ q .4, q .5, q .6), omega (arith, i .1, loaded-less p (kindWritten c) (headWritten c) (fieldsWritten c) (needs-all c)))
+    let q = loaded-on p (kindWritten c) (headWritten c) (fieldsWritten c) (found-written c) (λ on. (c .before .before .if8 .left, c .before .before .before .before .before .if7 .left)) in
+    ((q .0, q .1, q .2, q .3, i .0 .4 ∙ q .4, q .5, q .6), omega (arith, i .1, loaded-less p (kindWritten c) (headWritten c) (fieldsWritten c) (found-written c)))
 
 loop4-holds : tie.Need-loop4-holds Inv-loop3 μ-loop3 Inv-loop4 μ-loop4 Inv-loop2 μ-loop2 Inv-loop μ-loop
 loop4-holds c =
@@ -1161,30 +1157,30 @@ update-fields-requires : tie.Need-update-fields-requires Inv-loop3 μ-loop3 Inv-
 update-fields-requires c κs = omega (arith, c .before .before .before .update-head2 .ensures .1, to-read (c .before .before .before .before .before .before) .2)
 
 mul-records-2 : tie.Need-mul-records-2 Inv-loop3 μ-loop3 Inv-loop4 μ-loop4 Inv-loop2 μ-loop2 Inv-loop μ-loop
-mul-records-2 c = omega (arith, found c .known)
+mul-records-2 c = omega (arith, found-read c .known)
 
 array-set-from-records-2 : tie.Need-array-set-from-records-2 Inv-loop3 μ-loop3 Inv-loop4 μ-loop4 Inv-loop2 μ-loop2 Inv-loop μ-loop
-array-set-from-records-2 c = found c .known
+array-set-from-records-2 c = found-read c .known
 
 mul-marks-2 : tie.Need-mul-marks-2 Inv-loop3 μ-loop3 Inv-loop4 μ-loop4 Inv-loop2 μ-loop2 Inv-loop μ-loop
-mul-marks-2 c = omega (arith, found c .known)
+mul-marks-2 c = omega (arith, found-read c .known)
 
 array-write-marks-2 : tie.Need-array-write-marks-2 Inv-loop3 μ-loop3 Inv-loop4 μ-loop4 Inv-loop2 μ-loop2 Inv-loop μ-loop
-array-write-marks-2 c = found c .known
+array-write-marks-2 c = found-read c .known
 
 add-messages-2 : tie.Need-add-messages-2 Inv-loop3 μ-loop3 Inv-loop4 μ-loop4 Inv-loop2 μ-loop2 Inv-loop μ-loop
 add-messages-2 c = counts (readPlace (reading c))
 
 loop4-less : tie.Need-loop4-less Inv-loop3 μ-loop3 Inv-loop4 μ-loop4 Inv-loop2 μ-loop2 Inv-loop μ-loop
-loop4-less c = less (readPlace (reading c)) _ (fieldsRead c .next) _ (at-quick (readPlace (reading c)) (kindRead c) (headRead c) (fieldsRead c) (found c))
+loop4-less c = less (readPlace (reading c)) _ (fieldsRead c .next) _ (at-quick (readPlace (reading c)) (kindRead c) (headRead c) (fieldsRead c) (found-read c))
 
 loop4-again : tie.Need-loop4-again Inv-loop3 μ-loop3 Inv-loop4 μ-loop4 Inv-loop2 μ-loop2 Inv-loop μ-loop
 loop4-again c =
     let i = reading c .before .loop4 .inv in
     let p = readPlace (reading c) in
     let off = to-read (reading c) .0 in
-    let q = loaded-on p (kindRead c) (headRead c) (fieldsRead c) (found c) (λ on. absurd (true≢false (sym on ∙ off))) in
-    ((q .0, q .1, q .2, q .3, i .0 .4 ∙ q .4, q .5, q .6), omega (arith, i .1, loaded-less p (kindRead c) (headRead c) (fieldsRead c) (found c)))
+    let q = loaded-on p (kindRead c) (headRead c) (fieldsRead c) (found-read c) (λ on. absurd (true≢false (sym on ∙ off))) in
+    ((q .0, q .1, q .2, q .3, i .0 .4 ∙ q .4, q .5, q .6), omega (arith, i .1, loaded-less p (kindRead c) (headRead c) (fieldsRead c) (found-read c)))
 
 loop2-less : tie.Need-loop2-less Inv-loop3 μ-loop3 Inv-loop4 μ-loop4 Inv-loop2 μ-loop2 Inv-loop μ-loop
 loop2-less c = omega (arith, c .if14 .taken, c .before .before .before .before .before .before .loop2-test .taken)

@@ -8,11 +8,11 @@ ghost use lib.ListN.{length, take, drop};
 ghost use mir.Val.{ofZ};
 ghost use mir.Syntax.{w8, w16, w32};
 ghost use Rattle.dem.specs.Kind;
-ghost use Rattle.dem.specs.Bytes.{leRead, bit};
+ghost use Rattle.dem.specs.Bytes.{leRead, bit, bitOf};
 ghost use Rattle.dem.specs.Layout.{number};
 ghost use Rattle.dem.specs.Masked.{Mask};
 ghost use Rattle.dem.specs.Scene.{Context};
-ghost use Rattle.dem.specs.Message.{updateSlots, clientSlots, sendClient};
+ghost use Rattle.dem.specs.Message.{recordBit, updateSlots, clientSlots, sendClient};
 ghost use Rattle.wire.specs.Cursors.{gotten};
 ghost use Rattle.parts.specs.Kinds.{kindAt};
 ghost use Rattle.message.specs.Values.{poseValues, motionValues, armsValues, suppliesValues};
@@ -401,6 +401,24 @@ pub struct RecordAt {
     pub needless: bool,
 }
 
+// A record of what was read of an update with this mask.
+fn record_of(mask: u16, o: Look, l: LookOr, pose: Pose) -> Record
+    ensures { λ r. ⌜ recordValues r ≡ number (bitOf (bit mask recordBit)) ∷ (lookOf l ++ poseValues pose) ⌝ }
+{
+    let mut record = Record {
+        bit5: (mask >> 5) % 2 != 0,
+        look: o,
+        effects: l.effects,
+        pose,
+    };
+    // Each by itself: a look that is copied whole is taken apart and put together again as one number.
+    record.look.model = l.model;
+    record.look.frame = l.frame;
+    record.look.colormap = l.colormap;
+    record.look.skin = l.skin;
+    record
+}
+
 // What an update with this mask does not send comes from the baseline, effects 0.
 pub fn update_fields(d: &[u8], at: usize, mask: u16, b: Baseline) -> RecordAt
     requires { ⌜ at + 14 ≤ length (now d) ⌝ }
@@ -411,22 +429,14 @@ pub fn update_fields(d: &[u8], at: usize, mask: u16, b: Baseline) -> RecordAt
     let look = b.look;
     let l = look_chosen(d, at, mask, look);
     let p = pose_or(d, l.next, mask, b.pose, l.needless);
+    let next = p.next;
+    let needless = p.needless;
     let pose = p.pose;
-    let mut record = Record {
-        bit5: (mask >> 5) % 2 != 0,
-        look,
-        effects: l.effects,
-        pose,
-    };
-    // Each by itself: a look that is copied whole is taken apart and put together again as one number.
-    record.look.model = l.model;
-    record.look.frame = l.frame;
-    record.look.colormap = l.colormap;
-    record.look.skin = l.skin;
+    let record = record_of(mask, look, l, pose);
     RecordAt {
         record,
-        next: p.next,
-        needless: p.needless,
+        next,
+        needless,
     }
 }
 
@@ -440,21 +450,14 @@ pub fn needed_fields(d: &[u8], at: usize, mask: u16, b: Baseline) -> RecordAt
     let look = b.look;
     let l = look_or(d, at, mask, look);
     let p = needed_pose(d, l.next, mask, b.pose, l.needless);
+    let next = p.next;
+    let needless = p.needless;
     let pose = p.pose;
-    let mut record = Record {
-        bit5: (mask >> 5) % 2 != 0,
-        look,
-        effects: l.effects,
-        pose,
-    };
-    record.look.model = l.model;
-    record.look.frame = l.frame;
-    record.look.colormap = l.colormap;
-    record.look.skin = l.skin;
+    let record = record_of(mask, look, l, pose);
     RecordAt {
         record,
-        next: p.next,
-        needless: p.needless,
+        next,
+        needless,
     }
 }
 

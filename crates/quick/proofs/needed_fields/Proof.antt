@@ -1,15 +1,15 @@
 -- `quick::needed_fields` meets its contract: look, effects and pose follow the slots in turn.
 -- Assumes nothing.
-use mathlib.Core.Path.{_≡_, refl}
+use mathlib.Core.Path.{_≡_, refl, _∙_}
 use mathlib.Core.List.{List, _∷_, _++_}
 use Prim.Native.Nat.{ℕ}
 use mathlib.Core.Bool.{false}
 use Rattle.dem.specs.Bytes.{bit, bitOf}
 use Rattle.dem.specs.Layout.{Value, number}
+use Rattle.dem.specs.Message.{recordBit}
 use Rattle.message.specs.Values.{poseValues}
 use Rattle.quick.specs.Spread.{spread, passed, lookSlots, lookOf, poseSlots}
 use Rattle.quick.proofs.Fields.{Spreads, slots-then}
-use Rattle.masked.proofs.MaskLaws.{bit-test}
 use borrow.Author.Needs.{needs}
 use Rattle.quick.proofs.needed_fields.Statement.{statement}
 use Rattle.quick.proofs.needed_fields.Tie as tie
@@ -20,14 +20,16 @@ look-or-requires c κs = search needs
 needed-pose-requires : tie.Need-needed-pose-requires
 needed-pose-requires c κs = search needs
 
+record-of-requires : tie.Need-record-of-requires
+record-of-requires c κs = search needs
+
 returns : tie.Need-returns
 returns c =
-    let a = c .before .before .before .before .before .before .before .before .before .args in
+    let a = c .before .before .before .before .before .before .args in
     let d = a .d .now in
     let m = bit (a .mask) in
-    let five = bit-test (a .mask) 5 in
-    let l = c .before .before .before .before .before .before .look-or in
-    let p = c .before .before .before .before .before .needed-pose in
+    let l = c .before .before .before .look-or in
+    let p = c .before .before .needed-pose in
     let then : (vs : List Value) (end : ℕ) → Spreads d (poseSlots (a .b .pose)) m (l .result .next) (l .result .needless) vs end (p .result .needless)
     → Spreads d (lookSlots (a .b .look) ++ poseSlots (a .b .pose)) m (a .at) false (lookOf (l .result) ++ vs) end (p .result .needless) =
     λ vs end. slots-then d m (lookSlots (a .b .look)) (poseSlots (a .b .pose)) (a .at) false (lookOf (l .result)) (l .result .next) (l .result .needless) vs end (p .result .needless)
@@ -35,8 +37,8 @@ returns c =
     let whole : p .result .needless ≡ false → Spreads d (lookSlots (a .b .look) ++ poseSlots (a .b .pose)) m (a .at) false (lookOf (l .result) ++ poseValues (p .result .pose)) (p .result .next) (p .result .needless) =
     λ z. then (poseValues (p .result .pose)) (p .result .next) (p .ensures .1 .0 z, p .ensures .1 .1 z, p .ensures .0) in (
       then (spread d (poseSlots (a .b .pose)) m (l .result .next)) (passed (poseSlots (a .b .pose)) m (l .result .next)) (refl, refl, p .ensures .0) .2,
-      ((λ z i. number (bitOf (five i)) ∷ whole z .0 i), (λ z. whole z .1)),
+      ((λ z. c .record-of .ensures ∙ (λ i. number (bitOf (bit (a .mask) recordBit)) ∷ whole z .0 i)), (λ z. whole z .1)),
     )
 
 pub needed-fields-spec : {M : Type 1} → statement M
-needed-fields-spec = tie.close (tie.spec look-or-requires needed-pose-requires returns)
+needed-fields-spec = tie.close (tie.spec look-or-requires needed-pose-requires record-of-requires returns)

@@ -1,0 +1,18 @@
+-- `quick::record_of` meets its contract: bit 5, then what is handed in.
+-- Assumes nothing.
+use mathlib.Core.List.{_∷_, _++_}
+use Rattle.dem.specs.Bytes.{bitOf}
+use Rattle.dem.specs.Layout.{number}
+use Rattle.message.specs.Values.{poseValues}
+use Rattle.quick.specs.Spread.{lookOf}
+use Rattle.masked.proofs.MaskLaws.{bit-test}
+use Rattle.quick.proofs.record_of.Statement.{statement}
+use Rattle.quick.proofs.record_of.Tie as tie
+
+returns : tie.Need-returns
+returns c =
+    let a = c .before .before .before .before .args in
+    λ i. number (bitOf (bit-test (a .mask) 5 i)) ∷ (lookOf (a .l) ++ poseValues (a .pose))
+
+pub record-of-spec : {M : Type 1} → statement M
+record-of-spec = tie.close (tie.spec returns)

@@ -156,7 +156,8 @@ const BODY_SIZE: usize = 8064;
 
 // The blocks from a place to the end, but at most so many; and their normal forms, if they are wanted, into at most so much room from a
 // place of it on. Where the lent room is shorter than that, they are only counted. No copy of the scene is made for a block or a
-// message: its parts are locals. A run of updates has a loop of its own inside the one over messages: it takes fewer instructions.
+// message: its parts are locals. Runs of updates have two loops of their own inside the one over messages, for writing and for
+// reading: that takes fewer instructions.
 pub fn write_blocks(
     d: &[u8],
     from: usize,

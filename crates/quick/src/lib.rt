@@ -440,7 +440,8 @@ pub fn update_fields(d: &[u8], at: usize, mask: u16, b: Baseline) -> RecordAt
     }
 }
 
-// The same, but left at the first coordinate or angle sent needlessly; record and place are an answer only where there is none.
+// The same, but left behind a look that has a needless field, or at the first needless coordinate or angle; record and place are an
+// answer only where nothing was sent needlessly.
 pub fn needed_fields(d: &[u8], at: usize, mask: u16, b: Baseline) -> RecordAt
     requires { ⌜ at + 14 ≤ length (now d) ⌝ }
     ensures { λ r. ⌜ r .needless ≡ needlessIn (now (d .entry)) (updateSlots (baselineNumbers b)) (bit mask) at false ⌝ }

@@ -5,9 +5,11 @@ mod buffer;
 ghost use mathlib.Core.Path.{_≡_};
 ghost use Prim.Native.Nat.{_≤_};
 ghost use lib.ListN.{length};
+ghost use Rattle.report.specs.Lines.{lineRoom};
 use buffer::Filled;
 use libc::STDERR_FILENO;
 use libc::STDOUT_FILENO;
+use report::LINE_ROOM;
 
 // A block has at most 8,016 bytes, so that a full array holds a whole one; and its normal form has no more bytes than it, so that the output
 // is never short of room.
@@ -32,8 +34,8 @@ fn put(fd: i32, room: &[u8], len: usize) -> bool
     io::write_all(fd, &room[..len])
 }
 
-fn put_line(text: &[u8; 64], len: usize)
-    requires { ⌜ len ≤ 64 ⌝ }
+fn put_line(text: &[u8; LINE_ROOM], len: usize)
+    requires { ⌜ len ≤ lineRoom ⌝ }
 {
     put(STDERR_FILENO, text, len);
 }

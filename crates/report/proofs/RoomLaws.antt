@@ -4,11 +4,14 @@ use mathlib.Core.Path.{_≡_, refl, sym, ap, _∙_}
 use mathlib.Core.List.{List, [], _∷_, _++_}
 use Prim.Native.Nat.{ℕ, zero, suc, _+_, _-_, _/_, _%_, _≤_, _<_}
 use native.Mathlib.Numerals.{add-one}
+use native.Mathlib.Nat.{sub-zero, zero-sub, suc-sub-suc}
 use native.Mathlib.Omega.{arith}
-use lib.ListN.{length, getD, set, take, drop, drop-of-length-le, length-append}
-use lib.Seq.{sets, set-comm, drop-cons, take-at}
+use lib.ListN.{length, getD, set, drop, replicate, drop-of-length-le, length-append}
+use lib.Seq.{sets, set-comm, drop-cons}
 use Rattle.dem.specs.Track.{digitZero}
 use Rattle.dem.proofs.ListLaws.{sets-append, sets-front}
+use Rattle.report.specs.declared.Line.{Line}
+use Rattle.report.specs.Lines.{lineRoom, padded}
 use Rattle.report.proofs.DigitLaws.{lastText, last-length}
 
 -- ---- a text, from its first byte
@@ -67,6 +70,18 @@ stored-more {s} {t} {xs} {n} d u ys m e f =
       next = omega (arith, d .next, length-append xs ys);
     }
 
-pub stored-all : {s t xs : List ℕ} {n : ℕ} → Stored s t xs n → n ≤ length s → take n t ≡ xs
-stored-all {s} {t} {xs} {n} d h =
-    ap (take n) (d .same ∙ sets-front s xs (omega (arith, d .next))) ∙ take-at xs (drop (length xs) s) n (sym (d .next))
+drop-replicate : (k n a : ℕ) → drop k (replicate n a) ≡ replicate (n - k) a
+drop-replicate zero n a = rw (sub-zero n)
+drop-replicate (suc k) zero a = rw (zero-sub (suc k))
+drop-replicate (suc k) (suc n) a = rw (suc-sub-suc n k) (drop-replicate k n a)
+
+-- In a room of zeros: they, the zeros behind them and their length.
+pub stored-all : {t xs : List ℕ} {n : ℕ} → Stored (replicate lineRoom 0) t xs n → n ≤ lineRoom → (line : Line) → line .text ≡ t → line .len ≡ n
+    → line ≡ padded xs
+stored-all {t} {xs} {n} d h line et en =
+    let text : line .text ≡ padded xs .text =
+    et ∙ d .same ∙ sets-front (replicate lineRoom 0) xs (omega (arith, d .next))
+    ∙ ap (λ (l : List ℕ). xs ++ l) (drop-replicate (length xs) lineRoom 0)
+    in
+    let len : line .len ≡ length xs = en ∙ d .next in
+    λ i. record { text = text i; len = len i }

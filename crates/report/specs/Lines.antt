@@ -1,9 +1,11 @@
 -- The line of a refusal: `refused`, its number, `at`, its place, and a line feed.
 use mathlib.Core.List.{List, [], _∷_, _++_, map}
 use mathlib.Core.Bool.{cond}
-use Prim.Native.Nat.{ℕ, zero, suc, _+_, _/_, _%_}
+use Prim.Native.Nat.{ℕ, zero, suc, _+_, _-_, _/_, _%_}
 use lib.Dec.{ltb}
+use lib.ListN.{length, replicate}
 use Rattle.dem.specs.Track.{digitZero, lineFeed}
+use Rattle.report.specs.declared.Line.{Line}
 
 -- The digits of a number that has at most so many, without needless zeros.
 unfoldable pub decimalDigits : ℕ → ℕ → List ℕ
@@ -29,3 +31,14 @@ atText = 32 ∷ 97 ∷ 116 ∷ 32 ∷ []
 
 unfoldable pub refusalLine : ℕ → ℕ → List ℕ
 refusalLine refusal place = refusedText ++ decimalText refusal ++ atText ++ decimalText place ++ (lineFeed ∷ [])
+
+-- A line's room, in bytes.
+abbrev pub lineRoom : ℕ
+lineRoom = 64
+
+-- A line, with zeros behind it, and its length.
+abbrev pub padded : List ℕ → Line
+padded line = record { text = line ++ replicate (lineRoom - length line) 0; len = length line }
+
+abbrev pub lineOf : ℕ → ℕ → Line
+lineOf refusal place = padded (refusalLine refusal place)

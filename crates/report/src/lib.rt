@@ -1,13 +1,16 @@
 // The line that a program prints for a refusal.
 ghost use mathlib.Core.Path.{_≡_};
 ghost use Prim.Native.Nat.{_+_, _≤_};
-ghost use lib.ListN.{length, take};
+ghost use lib.ListN.{length};
 ghost use lib.Seq.{sets};
-ghost use Rattle.report.specs.Lines.{mostDigits, decimalDigits, decimalText, refusalLine};
+ghost use Rattle.report.specs.Lines.{mostDigits, decimalDigits, decimalText, lineRoom, lineOf};
 
-// A line's bytes, its line feed included.
+// More than any line's bytes.
+pub const LINE_ROOM: usize = 64;
+
+// A line's bytes, its line feed included, and zeros behind them.
 pub struct Line {
-    pub text: [u8; 64],
+    pub text: [u8; LINE_ROOM],
     pub len: usize,
 }
 
@@ -58,10 +61,10 @@ fn put_text(room: &mut [u8], at: usize, text: &[u8]) -> usize
 
 // The line of a refusal by its number and its place.
 pub fn refusal_line(refusal: u8, place: usize) -> Line
-    ensures { λ r. ⌜ take (r .len) (r .text) ≡ refusalLine refusal place ⌝ }
-    ensures within { λ r. ⌜ r .len ≤ 64 ⌝ }
+    ensures { λ r. ⌜ r ≡ lineOf refusal place ⌝ }
+    ensures within { λ r. ⌜ r .len ≤ lineRoom ⌝ }
 {
-    let mut text = [0u8; 64];
+    let mut text = [0u8; LINE_ROOM];
     let number = put_text(&mut text, 0, b"refused ");
     let word = put_number(&mut text, number, refusal as usize);
     let at = put_text(&mut text, word, b" at ");

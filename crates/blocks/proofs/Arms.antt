@@ -47,7 +47,7 @@ use Rattle.message.specs.declared.Serverinfo.{Serverinfo}
 use Rattle.message.specs.declared.Sound.{Sound}
 use Rattle.message.specs.declared.Update.{Update}
 use Rattle.message.specs.Values.{valuesOf, valuesBy, soundValues, updateValues}
-use Rattle.parts.specs.Kinds.{kindAt}
+use Rattle.parts.specs.Kinds.{gottenMessage, kindAt}
 use Rattle.scene.specs.Views.{Numbered, baselineNumbers, recordNumbers, recordValues, clientValues, sceneWith, withTables}
 use Rattle.scene.specs.declared.Baseline.{Baseline}
 use Rattle.scene.specs.declared.Client.{Client}
@@ -59,7 +59,7 @@ use Rattle.reader.specs.Passed.{isPassed}
 use Rattle.reader.proofs.Arms.{update-arm}
 use Rattle.reader.proofs.Passing.{each-passed}
 use Rattle.reader.proofs.Numbers.{is-message, rule-good}
-use Rattle.reader.proofs.Readings.{read-allowed, read-number, read-numbered, kind-read, message-parsed, message-ended, message-found, message-refused}
+use Rattle.reader.proofs.Readings.{read-allowed, read-values, read-number, read-numbered, kind-read, message-parsed, message-ended, message-found, message-refused}
 use Rattle.quick.specs.Spread.{clientAt}
 use Rattle.blocks.proofs.Turns.{Moved}
 
@@ -372,7 +372,10 @@ module _ (s : List ℕ) (at : ℕ) (l : at < length s) (b : List Baseline) (e : 
     -- ---- another message
 
     module _ (h : Bytes s) (k : Context) (ek : k ≡ contextOf (held b e p x)) (m : Sent) (c : Cursor)
-        (q : gotten s (valuesOf s m) c ≡ parseAt s (here at) (layout k)) where
+        (read : gottenMessage s (record { message = m; cursor = c }) ≡ parseAt s (here at) (layout k)) where
+      q : gotten s (valuesOf s m) c ≡ parseAt s (here at) (layout k)
+      q = read-values s at k (record { message = m; cursor = c }) read
+
       pub other-parsed : gotten s (valuesOf s m) c ≡ parseAt s (here at) (layoutIn (held b e p x))
       other-parsed = q ∙ ap (λ (y : Context). parseAt s (here at) (layout y)) ek
 

@@ -33,8 +33,9 @@ use Rattle.message.specs.declared.Message.the-variants as M
 use Rattle.message.specs.declared.Clientdata.{Clientdata}
 use Rattle.message.specs.declared.Sound.{Sound}
 use Rattle.message.specs.declared.Update.{Update}
+use Rattle.message.specs.Places.{valuesTo}
 use Rattle.message.specs.Values.{valuesOf, valuesBy, updateValues, clientValues as sentClientValues}
-use Rattle.scene.specs.Views.{Numbered, baselineNumbers, recordValues, clientValues, sceneOf, filledValues}
+use Rattle.scene.specs.Views.{Numbered, baselineNumbers, recordValues, clientValues, sceneOf, filledBy}
 use Rattle.scene.specs.declared.Baseline.{Baseline}
 use Rattle.scene.specs.declared.Client.{Client}
 use Rattle.scene.specs.declared.Filled.{Filled}
@@ -153,7 +154,7 @@ module _ (scene : Held) (s : List ℕ) (at : ℕ) (room : List ℕ) (r : Message
 
   module _ (bytes : Bytes s) (m : Sent) (f : Filled) (next : ℕ) (was : r .answer ≡ Found m f next) where
     abbrev item : Item (List Value) (List Value)
-    item = record { sent = valuesOf s m; filled = filledValues (placed s) f; next = next }
+    item = record { sent = valuesOf s m; filled = filledBy (valuesTo s next) f; next = next }
 
     it : FoundAt (sceneOf scene) s at (sceneOf (r .scene)) item
     it = found-reply-at (sceneOf scene) s at r m f next read was
@@ -171,7 +172,7 @@ module _ (scene : Held) (s : List ℕ) (at : ℕ) (room : List ℕ) (r : Message
         → intoRoom (sceneOf scene) (told (sceneOf (r .scene)) n next) form room ≡ normalAt messages (sceneOf scene) s at room
     formed form n e l =
         let t = sceneOf scene in
-        let same : form ≡ writeMessage t (normal t (filledValues (placed s) f)) = sym e ∙ ap (λ (vs : List Value). writeMessage t (normal t vs)) (sym (it .filled)) in
+        let same : form ≡ writeMessage t (normal t (filledBy (valuesTo s next) f)) = sym e ∙ ap (λ (vs : List Value). writeMessage t (normal t vs)) (sym (it .filled)) in
         ap (λ (k : ℕ). intoRoom t (told (sceneOf (r .scene)) k next) form room) (sym l)
         ∙ ap (λ (bs : List ℕ). intoRoom t (told (sceneOf (r .scene)) (length bs) next) bs room) same
         ∙ answered (Found m f next) was

@@ -1,6 +1,6 @@
 -- A message at a place, by the ways in which its reader answers; and what holds of one that was found.
 -- Assumes nothing.
-use mathlib.Core.Path.{_≡_, refl, sym, ap, _∙_}
+use mathlib.Core.Path.{_≡_, refl, sym, ap, _∙_, subst}
 use mathlib.Core.List.{List}
 use mathlib.Core.Bool.{Bool, true, false}
 use Prim.Native.Nat.{ℕ, _+_, _-_, _<_, _≤_}
@@ -20,14 +20,16 @@ use Rattle.dem.proofs.ResultLaws.{clash}
 use Rattle.dem.proofs.ByteLaws.{drop-bytes}
 use Rattle.dem.proofs.BlockLaws.{message-lawful}
 use Rattle.dem.proofs.AnswerLaws.{item-wrong, item-end, item-past, item-at, item-next, place-drop}
-use Rattle.wire.specs.Cursors.{gotten, placed, parseAt}
+use Rattle.wire.specs.Cursors.{gotten, parseAt}
 use Rattle.wire.specs.declared.Cursor.{Cursor}
 use Rattle.wire.proofs.Sticky.{here}
 use Rattle.message.specs.declared.Message.{Message as Sent}
 use Rattle.message.specs.Values.{valuesOf}
+use Rattle.message.specs.Places.{valuesTo}
+use Rattle.message.proofs.InPlace.{some-values}
 use Rattle.scene.specs.declared.Filled.{Filled}
-use Rattle.scene.specs.Views.{sceneOf, filledValues}
-use Rattle.reader.proofs.Readings.{message-ended, message-found, message-refused}
+use Rattle.scene.specs.Views.{sceneOf, filledBy}
+use Rattle.reader.proofs.Readings.{message-some, message-ended, message-found, message-refused}
 use Rattle.cobbrundle.specs.Replies.{answerOf, replyOf}
 use Rattle.cobbrundle.specs.declared.MessageAnswer.{MessageAnswer}
 use Rattle.cobbrundle.specs.declared.MessageAnswer.the-variants.{Found}
@@ -138,10 +140,12 @@ module _ (t : Scene) (s : List ℕ) (at : ℕ) (u : Scene) (i : Item Message Mes
         let k = message-lawful .sound t (drop at s) (i .sent) (f .rest) (drop-bytes at s bytes) (f .read) in
         ap (λ (j : ℕ). take j (drop at s)) found-length ∙ ap (take (length b)) (sym (k .tiles)) ∙ take-append-seam b (f .rest)
 
--- By what `read_message_at` answered.
+-- By what `read_message_at` answered: its strings are in place, so it has the values that it has anywhere.
 pub found-reply-at : (t : Scene) (s : List ℕ) (at : ℕ) (r : MessageReply) (m : Sent) (f : Filled) (next : ℕ) → replyOf s r ≡ messageAt t s at
     → r .answer ≡ Found m f next
-    → FoundAt t s at (sceneOf (r .scene)) (record { sent = valuesOf s m; filled = filledValues (placed s) f; next = next })
+    → FoundAt t s at (sceneOf (r .scene)) (record { sent = valuesOf s m; filled = filledBy (valuesTo s next) f; next = next })
 found-reply-at t s at r m f next read was =
-    found-at t s at (sceneOf (r .scene)) (record { sent = valuesOf s m; filled = filledValues (placed s) f; next = next })
-    (ap (λ (a : MessageAnswer). reply (sceneOf (r .scene)) (answerOf s a)) (sym was) ∙ read)
+    let it = found-at t s at (sceneOf (r .scene)) (record { sent = valuesTo s next m; filled = filledBy (valuesTo s next) f; next = next })
+    (ap (λ (a : MessageAnswer). reply (sceneOf (r .scene)) (answerOf s a)) (sym was) ∙ read) in
+    subst (λ (vs : Message). FoundAt t s at (sceneOf (r .scene)) (record { sent = vs; filled = filledBy (valuesTo s next) f; next = next }))
+    (some-values s next m (λ n. message-some t (drop at s) (it .rest) (it .read ∙ ap (λ (vs : Message). found vs (it .rest)) n))) it

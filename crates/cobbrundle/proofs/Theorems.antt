@@ -29,10 +29,11 @@ use Rattle.dem.proofs.AnswerLaws.{whole-accepted}
 use Rattle.message.specs.declared.Message.{Message}
 use Rattle.message.specs.declared.Message.the-variants as M
 use Rattle.message.specs.declared.Update.{Update}
+use Rattle.message.specs.Places.{valuesTo}
 use Rattle.message.specs.Values.{valuesOf, updateValues}
 use Rattle.scene.specs.declared.Scene.{Scene}
 use Rattle.scene.specs.declared.Filled.{Filled}
-use Rattle.scene.specs.Views.{sceneOf, filledValues}
+use Rattle.scene.specs.Views.{sceneOf, filledBy}
 use Rattle.wire.specs.Cursors.{placed}
 use Rattle.cobbrundle.specs.Replies.{replyOf, countOf, writtenOf, recordingAnswerOf, recordingReplyOf}
 use Rattle.cobbrundle.specs.declared.MessageAnswer.the-variants.{Found}
@@ -59,7 +60,7 @@ module _ (scene : Scene) (s : List ℕ) (at : ℕ) (bytes : Bytes s) (r : Messag
   t = sceneOf scene
 
   abbrev item : Item Values Values
-  item = record { sent = valuesOf s m; filled = filledValues (placed s) f; next = next }
+  item = record { sent = valuesOf s m; filled = filledBy (valuesTo s next) f; next = next }
 
   -- The reader found it.
   it : FoundAt t s at (sceneOf (r .scene)) item

@@ -6,9 +6,8 @@ use Rattle.dem.specs.Scene.{Scene as Described}
 use Rattle.dem.specs.Message.{Message as Values}
 use Rattle.dem.specs.Answer.{Answer, result, atEnd, refusal, Item, Reply, reply, Written, written, Track, Outline as Told}
 use Rattle.dem.specs.Answer.{Progress as Passed, Rewriting as Rewritten, Normalised, Summary}
-use Rattle.wire.specs.Cursors.{placed}
-use Rattle.message.specs.Values.{valuesOf}
-use Rattle.scene.specs.Views.{sceneOf, filledValues}
+use Rattle.message.specs.Places.{valuesTo}
+use Rattle.scene.specs.Views.{sceneOf, filledBy}
 use Rattle.cobbrundle.specs.declared.MessageAnswer.{MessageAnswer}
 use Rattle.cobbrundle.specs.declared.MessageAnswer.the-variants.{Found, End, Refused}
 use Rattle.cobbrundle.specs.declared.MessageReply.{MessageReply}
@@ -37,9 +36,9 @@ use Rattle.cobbrundle.specs.declared.NormalAnswer.{NormalAnswer}
 use Rattle.cobbrundle.specs.declared.NormalAnswer.the-variants as O
 use Rattle.cobbrundle.specs.declared.NormalReply.{NormalReply}
 
--- Strings are at their places in the input s.
+-- Strings are at their places in the input s, in front of what follows the message.
 abbrev pub answerOf : List ℕ → MessageAnswer → Answer (Item Values Values)
-answerOf s (Found m f next) = result (record { sent = valuesOf s m; filled = filledValues (placed s) f; next = next })
+answerOf s (Found m f next) = result (record { sent = valuesTo s next m; filled = filledBy (valuesTo s next) f; next = next })
 answerOf s End = atEnd
 answerOf s (Refused n p) = refusal n p
 

@@ -3,10 +3,11 @@ ghost use mathlib.Core.Path.{_≡_};
 ghost use mathlib.Core.List.{List, [], _∷_, _++_};
 ghost use Prim.Native.Nat.{ℕ, _≤_, _<_};
 ghost use Rattle.dem.specs.Kind;
-ghost use Rattle.dem.specs.Layout.{number};
+ghost use Rattle.dem.specs.Layout.{Value, number};
 ghost use Rattle.dem.specs.Message.{apply, fill};
+ghost use Rattle.message.specs.declared.Message.{Message};
 ghost use Rattle.message.specs.Values.{lookValues, poseValues, updateValues, valuesBy};
-ghost use Rattle.scene.specs.Views.{sceneOf, baselineNumbers, Numbered, filledValues};
+ghost use Rattle.scene.specs.Views.{sceneOf, baselineNumbers, Numbered, filledBy};
 ghost use Rattle.dem.specs.Scene.{baselineAt};
 ghost use Rattle.wire.specs.declared.Text.{Text};
 use message::Entity;
@@ -100,7 +101,7 @@ pub fn scene_after(s: Scene, m: Message) -> Scene
 
 // The filled-in form of a message.
 pub fn filled_in(s: Scene, m: Message) -> Filled
-    ensures { λ r. ⌜ ((t : Text → List ℕ) → Numbered m → filledValues t r ≡ fill (sceneOf s) (valuesBy t m)) ⌝ }
+    ensures { λ r. ⌜ ((v : Message → List Value) (t : Text → List ℕ) → v m ≡ valuesBy t m → Numbered m → filledBy v r ≡ fill (sceneOf s) (valuesBy t m)) ⌝ }
 {
     match m {
         Message::Update(u) => {

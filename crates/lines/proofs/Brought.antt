@@ -18,8 +18,9 @@ use Rattle.wire.specs.declared.Text.{Text}
 use Rattle.message.proofs.Message as Messages
 use Rattle.message.specs.declared.Message.{Message}
 use Rattle.message.specs.declared.Message.the-variants as M
+use Rattle.message.specs.Places.{valuesTo}
 use Rattle.message.specs.Values.{valuesBy, valuesOf, updateValues}
-use Rattle.scene.specs.Views.{Numbered, sceneOf, filledValues}
+use Rattle.scene.specs.Views.{Numbered, sceneOf, filledBy}
 use Rattle.scene.specs.declared.Filled.{Filled}
 use Rattle.scene.specs.declared.Scene.{Scene as Held}
 use Rattle.cobbrundle.specs.Replies.{answerOf, replyOf}
@@ -89,7 +90,7 @@ module _ (s : Scene) (bytes : List ℕ) (in-bytes : Bytes bytes) (at : ℕ) (r :
   -- A message that is found.
   module _ (m : Message) (f : Filled) (next : ℕ) (was : r .answer ≡ Found m f next) where
     abbrev item : Item Values Values
-    item = record { sent = valuesOf bytes m; filled = filledValues (placed bytes) f; next = next }
+    item = record { sent = valuesOf bytes m; filled = filledBy (valuesTo bytes next) f; next = next }
 
     it : FoundAt s bytes at (sceneOf (r .scene)) item
     it = found-reply-at s bytes at r m f next read was

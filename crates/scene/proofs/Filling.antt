@@ -24,6 +24,7 @@ use Rattle.message.specs.declared.Message.{Message}
 use Rattle.message.specs.declared.Message.the-variants as M
 use Rattle.message.specs.declared.Update.{Update}
 use Rattle.message.specs.Values.{valuesBy, updateValues}
+use Rattle.scene.specs.Views.{plainValues}
 
 -- What a flag picks, whichever way it is known.
 pub flag-picks : {A : Type 0} (f g : Bool) (a b : A) → f ≡ g → (r : A) → r ≡ cond f a b → r ≡ cond g a b
@@ -68,7 +69,8 @@ module _ (s : Scene) (t : Text → List ℕ) where
 abbrev pub plain : List ℕ
 plain = 0 ∷ 1 ∷ 2 ∷ 3 ∷ 4 ∷ 6 ∷ 7 ∷ 8 ∷ 9 ∷ 10 ∷ 11 ∷ 12 ∷ 13 ∷ 15 ∷ 16 ∷ 17 ∷ 18 ∷ 19 ∷ 20 ∷ 21 ∷ 22 ∷ 23 ∷ 24 ∷ 25 ∷ 26 ∷ 27 ∷ 28 ∷ 29 ∷ 30 ∷ 31 ∷ 32 ∷ []
 
-pub fill-keeps : (s : Scene) (t : Text → List ℕ) (m : Message) → OneOf plain (tagOf Messages.the-type m) → valuesBy t m ≡ fill s (valuesBy t m)
+pub fill-keeps : (s : Scene) (t : Text → List ℕ) (m : Message) → OneOf plain (tagOf Messages.the-type m)
+    → plainValues (valuesBy t m) ≡ fill s (valuesBy t m)
 unfolding fill
 fill-keeps s t M.Nop h = refl
 fill-keeps s t M.Disconnect h = refl

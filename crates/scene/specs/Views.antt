@@ -1,21 +1,21 @@
 -- The scene that code holds, as the definitions' one: signed numbers by their bits, entities and clientdata in wire order.
 use mathlib.Core.Path.{_≡_}
-use mathlib.Core.List.{List, _∷_, _++_, map}
-use mathlib.Core.Bool.{Bool, true, cond}
+use mathlib.Core.List.{List, [], _∷_, _++_, map}
+use mathlib.Core.Bool.{Bool, true, cond, _||_}
 use mathlib.Core.Option.{Option, none, some}
 use Prim.Native.Nat.{ℕ}
+use lib.Dec.{eqb}
 use mir.Val.{ofZ}
 use mir.Syntax.{w16, w32}
 use Rattle.dem.specs.Bytes.{bitOf}
 use Rattle.dem.specs.Kind
-use Rattle.dem.specs.Layout.{Value, number, numbers}
+use Rattle.dem.specs.Layout.{Value, number, numbers, firstNumber}
 use Rattle.dem.specs.Scene.{PlayerLine as Line, Scene as Described, baselineAt}
 use Rattle.dem.specs.Message.{isUpdate}
-use Rattle.wire.specs.declared.Text.{Text}
 use Rattle.message.specs.declared.Message.{Message}
 use Rattle.message.specs.declared.Message.the-variants as M
 use Rattle.message.specs.declared.Update.{Update}
-use Rattle.message.specs.Values.{valuesBy, lookValues, poseValues, motionValues, armsValues, suppliesValues, vectorValues, long}
+use Rattle.message.specs.Values.{lookValues, poseValues, motionValues, armsValues, suppliesValues, vectorValues, long}
 use Rattle.scene.specs.declared.Baseline.{Baseline}
 use Rattle.scene.specs.declared.Record.{Record}
 use Rattle.scene.specs.declared.Client.{Client}
@@ -42,12 +42,20 @@ filledSoundValues s =
     number (s .volume) ∷ number (s .attenuation) ∷ number (s .channel) ∷ number (s .entity .0) ∷ number (s .sound)
     ∷ vectorValues (s .origin)
 
--- A message filled in, whose strings are the bytes that t says.
-abbrev pub filledValues : (Text → List ℕ) → Filled → List Value
-filledValues t (F.Plain m) = valuesBy t m
-filledValues t (F.Sound s) = number Kind.sound ∷ filledSoundValues s
-filledValues t (F.Clientdata c) = number Kind.clientdata ∷ clientValues c
-filledValues t (F.Update e r) = number Kind.update ∷ number (e .0) ∷ recordValues r
+-- The kinds that are sent with a mask.
+abbrev pub isMasked : ℕ → Bool
+isMasked n = isUpdate n || eqb n Kind.sound || eqb n Kind.clientdata
+
+-- A message without a mask is its own filled-in form. One with a mask is none as it is, and has no values.
+abbrev pub plainValues : List Value → List Value
+plainValues vs = cond (isMasked (firstNumber vs)) [] vs
+
+-- A message filled in, where messages as sent have the values that v says.
+abbrev pub filledBy : (Message → List Value) → Filled → List Value
+filledBy v (F.Plain m) = plainValues (v m)
+filledBy v (F.Sound s) = number Kind.sound ∷ filledSoundValues s
+filledBy v (F.Clientdata c) = number Kind.clientdata ∷ clientValues c
+filledBy v (F.Update e r) = number Kind.update ∷ number (e .0) ∷ recordValues r
 
 abbrev pub baselineNumbers : Baseline → List ℕ
 baselineNumbers b = numbers (baselineValues b)

@@ -8,13 +8,14 @@ ghost use mir.Syntax.{w16, w32};
 ghost use mir.Val.{ofZ};
 ghost use Rattle.dem.specs.Kind;
 ghost use Rattle.dem.specs.Bytes.{isSet, bit};
-ghost use Rattle.dem.specs.Layout.{number, numbers, tail};
+ghost use Rattle.dem.specs.Layout.{Value, number, numbers, tail};
 ghost use Rattle.dem.specs.Masked.{fillSlots};
 ghost use Rattle.dem.specs.Scene.{Scene as Described, zeroClientdata, cleared, inRange};
 ghost use Rattle.dem.specs.Message.{apply, raise, clientStats, fill, updateSlots, updateMask, clientSlots, fillUpdate, fillClient, fillSound};
 ghost use Rattle.wire.specs.declared.Text.{Text};
+ghost use Rattle.message.specs.declared.Message.{Message};
 ghost use Rattle.message.specs.Values.{valuesBy, lookValues, poseValues, motionValues, armsValues, soundValues, updateValues, clientValues as sentClientValues};
-ghost use Rattle.scene.specs.Views.{Numbered, BaselineOf, filledValues, sceneOf, sceneWith, withTables, withStats, baselineNumbers, recordValues, clientValues, filledSoundValues};
+ghost use Rattle.scene.specs.Views.{Numbered, BaselineOf, filledBy, sceneOf, sceneWith, withTables, withStats, baselineNumbers, recordValues, clientValues, filledSoundValues};
 use message::Arms;
 use message::Clientdata;
 use message::Entity;
@@ -380,9 +381,10 @@ pub fn fill_sound(s: Sound) -> FilledSound
     }
 }
 
-// An update is filled in from the baseline given.
+// An update is filled in from the baseline given. A message without a mask is answered as it is: whatever values v says of messages, if it
+// says this one's, these are told.
 pub fn fill_message(m: Message, b: Baseline) -> Filled
-    ensures { λ r. ⌜ ((s : Described) (t : Text → List ℕ) → Numbered m → BaselineOf s m b → filledValues t r ≡ fill s (valuesBy t m)) ⌝ }
+    ensures { λ r. ⌜ ((s : Described) (v : Message → List Value) (t : Text → List ℕ) → v m ≡ valuesBy t m → Numbered m → BaselineOf s m b → filledBy v r ≡ fill s (valuesBy t m)) ⌝ }
 {
     match m {
         Message::Sound(s) => Filled::Sound(fill_sound(s)),

@@ -22,10 +22,10 @@ use Rattle.dem.proofs.CodecLaws.{shrinks, read-next}
 use Rattle.dem.proofs.BlockLaws.{message-lawful}
 use Rattle.dem.proofs.AnswerLaws.{item-wrong, item-end, item-past, item-at, item-next}
 use Rattle.dem.proofs.RangeLaws.{message-range}
-use Rattle.wire.specs.Cursors.{placed}
 use Rattle.message.specs.declared.Message.{Message as Sent}
+use Rattle.message.specs.Places.{valuesTo}
 use Rattle.message.specs.Values.{valuesOf}
-use Rattle.scene.specs.Views.{sceneOf, filledValues}
+use Rattle.scene.specs.Views.{sceneOf, filledBy}
 use Rattle.scene.specs.declared.Filled.{Filled}
 use Rattle.scene.specs.declared.Scene.{Scene as Held}
 use Rattle.cobbrundle.specs.Replies.{answerOf, replyOf}
@@ -208,7 +208,7 @@ module _ (given : Held) (block : List ℕ) (bytes : Bytes block) (s : Held) (at 
 
   pub found-ahead : (m : Sent) (f : Filled) (next : ℕ) → r .answer ≡ Found m f next → Ahead next
   found-ahead m f next was =
-      let i : Item Message Message = record { sent = valuesOf block m; filled = filledValues (placed block) f; next = next } in
+      let i : Item Message Message = record { sent = valuesOf block m; filled = filledBy (valuesTo block next) f; next = next } in
       let it = found-reply-at (sceneOf s) block at r m f next read was in
       (goes-on (sceneOf given) block bytes (sceneOf s) at n g (sceneOf (r .scene)) i it, found-next (sceneOf s) block at (sceneOf (r .scene)) i it bytes .1)
 

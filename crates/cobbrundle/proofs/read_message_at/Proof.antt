@@ -1,13 +1,13 @@
 -- `cobbrundle::read_message_at` meets its contract: the tests in document 01's order, then what the reader answers.
 -- Assumes nothing.
-use mathlib.Core.Path.{_≡_, sym, ap, _∙_}
+use mathlib.Core.Path.{_≡_, sym, ap, _∙_, subst}
 use mathlib.Core.List.{List, map}
 use mathlib.Core.Bool.{true}
 use Prim.Native.Nat.{ℕ, _<_, _≤_}
 use native.Mathlib.Omega.{arith}
 use borrow.Author.Needs.{needs}
 use borrow.Author.Tests.{not-true, not-false}
-use lib.ListN.{length}
+use lib.ListN.{length, length-drop}
 use Rattle.dem.specs.Layout.{Value}
 use Rattle.dem.specs.Scene.{Scene, Context, inRange}
 use Rattle.dem.specs.Message.{layout, layoutIn}
@@ -16,10 +16,13 @@ use Rattle.dem.specs.Answer.{Reply, reply, result, Item}
 use Rattle.dem.proofs.ByteLaws.{bytes-of}
 use Rattle.dem.proofs.RangeLaws.{range→}
 use Rattle.dem.proofs.AnswerLaws.{item-wrong, item-end, item-past}
-use Rattle.wire.specs.Cursors.{gotten, placed, parseAt}
+use Rattle.wire.specs.Cursors.{placed, parseAt}
 use Rattle.wire.proofs.Sticky.{here}
 use Rattle.message.specs.Values.{valuesOf}
-use Rattle.reader.proofs.Readings.{read-numbered}
+use Rattle.message.specs.Places.{inPlace, valuesTo}
+use Rattle.message.proofs.InPlace.{placed-values}
+use Rattle.parts.specs.Kinds.{gottenMessage, leftAt}
+use Rattle.reader.proofs.Readings.{read-in-place, read-values, read-numbered}
 use Rattle.scene.specs.Views.{sceneWith, sceneOf, baselineNumbers, recordNumbers}
 use Rattle.cobbrundle.proofs.Messages.{ended-reply, refused-reply, found-reply}
 use Rattle.cobbrundle.proofs.read_message_at.Statement.{statement}
@@ -31,8 +34,8 @@ before-end {m} {n} p h = omega arith
 abbrev found : Scene → List Value → List Value → ℕ → Reply Scene (Item (List Value) (List Value))
 found t vs fs n = reply t (result (record { sent = vs; filled = fs; next = n }))
 
-found-equal : {t u : Scene} {vs fs gs : List Value} {m n : ℕ} → t ≡ u → fs ≡ gs → m ≡ n → found t vs fs m ≡ found u vs gs n
-found-equal {t} {u} {vs} {fs} {gs} {m} {n} p q r = λ i. found (p i) vs (q i) (r i)
+found-equal : {t u : Scene} {vs ws fs gs : List Value} {m n : ℕ} → t ≡ u → vs ≡ ws → fs ≡ gs → m ≡ n → found t vs fs m ≡ found u ws gs n
+found-equal {t} {u} {vs} {ws} {fs} {gs} {m} {n} p o q r = λ i. found (p i) (o i) (q i) (r i)
 
 -- ---- what was tested
 
@@ -50,7 +53,7 @@ inside c = before-end (c .before .if2 .left) (c .if3 .left)
 
 -- What the reader answers is what the layout in this scene reads to.
 read-in : (c : tie.After-read-message)
-    → gotten (c .before .before .before .before .before .before .before .before .before .args .bytes .now) (valuesOf (c .before .before .before .before .before .before .before .before .before .args .bytes .now) (c .read-message .result .message)) (c .read-message .result .cursor)
+    → gottenMessage (c .before .before .before .before .before .before .before .before .before .args .bytes .now) (c .read-message .result)
     ≡ parseAt (c .before .before .before .before .before .before .before .before .before .args .bytes .now) (here (c .before .before .before .before .before .before .before .before .before .args .at)) (layoutIn (sceneOf (c .before .before .before .before .before .before .before .before .before .args .scene)))
 read-in c =
     let a = c .before .before .before .before .before .before .before .before .before .args in
@@ -97,7 +100,7 @@ returns-5 c =
     let a = c .before .before .before .before .before .before .before .before .before .before .before .args in
     let m = c .before .before in
     sym (refused-reply (sceneOf (a .scene)) (a .bytes .now) (a .at) (in-range′ (c .before .before .before .before .before .before .before)) (inside (c .before .before .before .before .before)) (c .before .before .before .before .if4 .left)
-    (valuesOf (a .bytes .now) (m .read-message .result .message)) (m .read-message .result .cursor) (read-in m) (c .if5 .taken))
+    _ (m .read-message .result .cursor) (read-in m) (c .if5 .taken))
 
 filled-in-requires : tie.Need-filled-in-requires
 filled-in-requires c κs = search needs
@@ -118,10 +121,16 @@ returns-6 c =
     let m = c .before .before .before .before .before in
     let e = c .before .before .before .if5 .left in
     let bytes = bytes-of s (λ i. c .before .before .before .before .before .before .before .before .before .before .before .before .before .shared-slice-known .given i .fits) in
-    let n = read-numbered s (a .at) _ (m .read-message .result .message) (m .read-message .result .cursor) bytes (read-in m) e in
-    found-equal (c .before .scene-after .ensures (placed s) n) (c .before .before .filled-in .ensures (placed s) n) (c .place .ensures)
-    ∙ sym (found-reply t s (a .at) (in-range′ (c .before .before .before .before .before .before .before .before .before .before)) (inside (c .before .before .before .before .before .before .before .before)) (c .before .before .before .before .before .before .before .if4 .left) (valuesOf s (m .read-message .result .message))
-    (m .read-message .result .cursor) (read-in m) e)
+    let r = m .read-message .result in
+    let next = c .place .result in
+    let values = read-values s (a .at) _ r (read-in m) in
+    let n = read-numbered s (a .at) _ (r .message) (r .cursor) bytes values e in
+    let ends : leftAt s (r .cursor) ≡ next = omega (arith, c .place .ensures, length-drop (r .cursor .at) s) in
+    let sent : valuesTo s next (r .message) ≡ valuesOf s (r .message) =
+    placed-values s next (r .message) (subst (λ (k : ℕ). inPlace k (r .message) ≡ true) ends (read-in-place s (a .at) _ r (read-in m) e)) in
+    found-equal (c .before .scene-after .ensures (placed s) n) sent (c .before .before .filled-in .ensures (valuesTo s next) (placed s) sent n) (c .place .ensures)
+    ∙ sym (found-reply t s (a .at) (in-range′ (c .before .before .before .before .before .before .before .before .before .before)) (inside (c .before .before .before .before .before .before .before .before)) (c .before .before .before .before .before .before .before .if4 .left) (valuesOf s (r .message))
+    (r .cursor) values e)
 
 pub read-message-at-spec : {M : Type 1} → statement M
 read-message-at-spec =

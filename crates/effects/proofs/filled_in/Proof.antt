@@ -30,17 +30,17 @@ fill-message-requires-2 : tie.Need-fill-message-requires-2
 fill-message-requires-2 c κs = search needs
 
 returns : tie.Need-returns
-returns c t n =
+returns c v t e n =
     let a = c .before .before .before .before .before .before .before .args in
     let s = sceneOf (a .s) in
     let g = c .before .before .before .before .before .m .given in
-    c .fill-message .ensures s t (λ v q. n v (g .1 ∙ q)) (of-update s (Sent.Update (g .0 .0)) (g .0 .0) (c .before .baseline-of .result) refl (c .before .baseline-of .ensures))
+    c .fill-message .ensures s v t (sym (ap v (g .1)) ∙ e ∙ ap (valuesBy t) (g .1)) (λ u q. n u (g .1 ∙ q)) (of-update s (Sent.Update (g .0 .0)) (g .0 .0) (c .before .baseline-of .result) refl (c .before .baseline-of .ensures))
     ∙ ap (λ (m : Message). fill s (valuesBy t m)) (sym (g .1))
 
 returns-2 : tie.Need-returns-2
-returns-2 c t n =
+returns-2 c v t e n =
     let a = c .before .before .before .args in
-    c .fill-message2 .ensures (sceneOf (a .s)) t n (of-other (sceneOf (a .s)) (a .m) (c .before .baseline-of2 .result) (c .before .before .match .keys2))
+    c .fill-message2 .ensures (sceneOf (a .s)) v t e n (of-other (sceneOf (a .s)) (a .m) (c .before .baseline-of2 .result) (c .before .before .match .keys2))
 
 pub filled-in-spec : {M : Type 1} → statement M
 filled-in-spec =

@@ -1,7 +1,8 @@
 -- `scene::fill_message` meets its contract: sound, clientdata and update by what they call, the last arm by the list of plain messages.
 -- Assumes nothing.
-use mathlib.Core.Path.{_∙_}
+use mathlib.Core.Path.{ap, _∙_}
 use Rattle.dem.specs.Message.{fill}
+use Rattle.scene.specs.Views.{plainValues}
 use Rattle.scene.proofs.Filling.{fill-match, fill-from, fill-keeps}
 use borrow.Author.Needs.{needs}
 use Rattle.scene.proofs.fill_message.Statement.{statement}
@@ -27,20 +28,20 @@ fill-update-requires c κs = search needs
 
 returns : tie.Need-returns
 unfolding fill
-returns c s t n a = c .fill-sound .ensures ∙ fill-match s t _ _ (c .before .before .m .given .1)
+returns c s v t e n a = c .fill-sound .ensures ∙ fill-match s t _ _ (c .before .before .m .given .1)
 
 returns-2 : tie.Need-returns-2
 unfolding fill
-returns-2 c s t n a = c .fill-client .ensures ∙ fill-match s t _ _ (c .before .before .m2 .given .1)
+returns-2 c s v t e n a = c .fill-client .ensures ∙ fill-match s t _ _ (c .before .before .m2 .given .1)
 
 returns-3 : tie.Need-returns-3
-returns-3 c s t n a =
+returns-3 c s v t e n a =
     let u = c .before .before .before .m3 .given .0 .0 in
     let q = c .before .before .before .m3 .given .1 in
     c .fill-update .ensures ∙ fill-from s t u _ (n u q) (a u q) ∙ fill-match s t _ _ q
 
 returns-4 : tie.Need-returns-4
-returns-4 c s t n a = fill-keeps s t (c .before .args .m) (c .match .keys4)
+returns-4 c s v t e n a = ap plainValues e ∙ fill-keeps s t (c .before .args .m) (c .match .keys4)
 
 pub fill-message-spec : {M : Type 1} → statement M
 fill-message-spec =

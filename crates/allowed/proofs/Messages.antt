@@ -3,7 +3,6 @@
 use mathlib.Core.Path.{_≡_, refl, sym, ap, ap₂, _∙_}
 use mathlib.Core.List.{List, [], _∷_, _++_, append-nil}
 use mathlib.Core.Bool.{Bool, true, false, cond, not, _&&_, _||_, and-true, and-false, or-false, Bool·not-not}
-use mathlib.Core.Option.{some, none}
 use Prim.Native.Nat.{ℕ, _+_, _<_, _^_}
 use native.Mathlib.Omega.{arith}
 use borrow.Author.Tests.{ne-eqb, leb-true, leb-false, not-true}
@@ -24,7 +23,6 @@ use Rattle.dem.specs.Masked.{Mask, slotLayout, anySet}
 use Rattle.dem.specs.Scene.{Context as Numbers, zeroBaseline, isTime}
 use Rattle.dem.specs.Message.{row, soundSlots, soundTail, clientSlots, clientTail, updateSlots, updateMask, updateLayout, numberRule, isUpdate}
 use Rattle.dem.specs.Message.{equals, between, highRule, entityLayout, isPoint, isLine, names, notBefore, kindLayout, layout, entityRule, entity}
-use Rattle.dem.proofs.RangeLaws.{time-bits}
 use Rattle.dem.proofs.ResultLaws.{clash}
 use Rattle.message.specs.Values.{short, long, char, valuesBy, vectorValues, lookValues, poseValues, soundValues, temporaryValues, serverinfoValues}
 use Rattle.message.specs.Values.{motionValues, armsValues, suppliesValues, clientValues, updateValues}
@@ -133,15 +131,6 @@ time-law : (x : Context) (v : ℕ) → v < 256 ^ 4 → allows (kindLayout (conte
 unfolding kindLayout timeTest allows
 time-law x v h =
     ruled-step true 4 (λ v. isTime v && notBefore (contextOf x .time) v) wrongTime (λ v. done) v [] h (lit< tt) ∙ and-true _
-
--- As code tests it: sign and exponent are one bound of the bits.
-pub time-test : (x : Context) (v : ℕ) → v < 2 ^ 32 → (ltb v 0x7f800000 && (not (x .timed) || leb (x .time) v)) ≡ timeTest x v
-unfolding timeTest
-time-test x v h = ap₂ (λ (a b : Bool). a && b) (sym (time-bits v h)) (go (x .timed))
-  where
-    go : (b : Bool) → (not b || leb (x .time) v) ≡ notBefore (cond b (some (x .time)) none) v
-    go true = refl
-    go false = refl
 
 -- Protocol, limit, game and map, then a layout.
 info-fields : (k : Layout) (z limit game : ℕ) (map : List ℕ) (us : List Value) → z < 256 ^ 4 → limit < 256 → game < 256

@@ -160,7 +160,7 @@ fn sound_fits(s: Sound) -> bool
 fn time_fits(bits: u32, x: Context) -> bool
     ensures { λ r. ⌜ r ≡ timeTest x bits ⌝ }
 {
-    (bits < 2139095040) & (!x.timed | (x.time <= bits))
+    !plain::is_wrong_time(bits, x)
 }
 
 fn serverinfo_fits(text: &[u8], s: Serverinfo) -> bool

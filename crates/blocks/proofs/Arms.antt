@@ -74,22 +74,6 @@ noBaseline =
       pose = record { x = pos 0; angle0 = pos 0; y = pos 0; angle1 = pos 0; z = pos 0; angle2 = pos 0 };
     }
 
--- The rest with another time.
-abbrev pub timed : Rest → ℕ → Rest
-timed x v =
-    record {
-      stats = x .stats;
-      client = x .client;
-      view = x .view;
-      pause = x .pause;
-      statics = x .statics;
-      limit = x .limit;
-      timed = true;
-      time = v;
-      ended = x .ended;
-      players = x .players;
-    }
-
 -- What stands in front of the bytes from a place on, where they are the end of those from another on.
 copied : (s : List ℕ) (at to : ℕ) (xs : List ℕ) → at < length s → xs ++ drop to s ≡ drop at s → xs ≡ take (to - at) (drop at s)
 copied s at to xs l e = go (leb to (length s)) refl
@@ -315,10 +299,13 @@ module _ (s : List ℕ) (at : ℕ) (l : at < length s) (b : List Baseline) (e : 
 
     -- ---- a time, and clientdata
 
-    pub time-moved : Bytes s → (v : ℕ) (c : Cursor) → gotten s (number 7 ∷ number v ∷ []) c ≡ parseAt s (here at) (layoutIn (held b e p x)) → c .refusal ≡ 0
-        → Moved s (held b e p x) at (held b e (replicate 449 false) (timed x v)) (c .at) (take (c .at - at) (drop at s))
-    unfolding sceneWith apply fill normal
-    time-moved h v c q z = parsed-moved (number 7 ∷ number v ∷ []) c q z _ refl _ (parsed-bytes (number 7 ∷ number v ∷ []) c q h z)
+    pub time-moved : Bytes s → (v : ℕ) (y : Rest) (c : Cursor) → gotten s (number 7 ∷ number v ∷ []) c ≡ parseAt s (here at) (layoutIn (held b e p x)) → c .refusal ≡ 0
+        → ((b e : List (List ℕ)) (p : List Bool) → sceneWith b e (replicate 449 false) y ≡ apply (sceneWith b e p x) (number Kind.time ∷ number v ∷ []))
+        → Moved s (held b e p x) at (held b e (replicate 449 false) y) (c .at) (take (c .at - at) (drop at s))
+    unfolding fill normal
+    time-moved h v y c q z g =
+        parsed-moved (number 7 ∷ number v ∷ []) c q z _ (sym (g (map baselineNumbers b) (map recordNumbers e) p))
+        _ (parsed-bytes (number 7 ∷ number v ∷ []) c q h z)
 
     -- The bytes of clientdata.
     abbrev pub clientForm : Client → List ℕ

@@ -37,11 +37,11 @@ pub struct BlocksAt {
 pub fn context(x: Rest) -> Context
     ensures { λ r. ⌜ ((b e : List (List ℕ)) (p : List Bool) → numbersOf r ≡ contextOf (sceneWith b e p x)) ⌝ }
 {
+    let time = x.time;
     Context {
         limit: x.limit,
         statics: x.statics,
-        timed: x.timed,
-        time: x.time,
+        time,
     }
 }
 
@@ -358,8 +358,7 @@ pub fn write_blocks(
                         return refused_in(given, blocks, start, wrong, at, written);
                     }
                     since = at;
-                    rest.timed = true;
-                    rest.time = t.value;
+                    rest = scene::with_time(rest, t.value);
                     at = next.at;
                 }
                 15 => {

@@ -8,6 +8,7 @@ use message::Look;
 use message::Motion;
 use message::Pose;
 use message::Supplies;
+use message::Time;
 use scene::Baseline;
 use scene::Client;
 use scene::PlayerLine;
@@ -17,10 +18,11 @@ use scene::Scene;
 
 fn time(out: &mut [u8], at: usize, rest: Rest) -> usize {
     let end = text::put(out, at, b"\ntime ");
-    if rest.timed {
-        return text::bits(out, end, rest.time);
+    let time = rest.time;
+    match time {
+        Time::None => text::put(out, end, b"none"),
+        Time::At(bits) => text::bits(out, end, bits),
     }
-    text::put(out, end, b"none")
 }
 
 fn stats(out: &mut [u8], at: usize, values: [i32; 32]) -> usize {

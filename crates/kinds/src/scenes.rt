@@ -17,18 +17,11 @@ fn player(line: PlayerLine) {
     show::say(b"\n");
 }
 
-fn time(timed: bool, bits: u32) {
-    if timed {
-        show::bits(b" time=", bits);
-    } else {
-        show::say(b" time=none");
-    }
-}
-
 fn single(rest: Rest) {
     let view = rest.view;
+    let time = rest.time;
     show::flag(b"  scene ended=", rest.ended);
-    time(rest.timed, rest.time);
+    show::time(time);
     show::byte(b" limit=", rest.limit);
     show::word(b" view=", view.0);
     show::byte(b" pause=", rest.pause);

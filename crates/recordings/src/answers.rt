@@ -17,18 +17,11 @@ fn refused(n: u8, at: usize) {
     show::count(b" at ", at);
 }
 
-fn time(timed: bool, bits: u32) {
-    if timed {
-        show::bits(b" time=", bits);
-    } else {
-        show::say(b" time=none");
-    }
-}
-
 fn single(rest: Rest) {
     let view = rest.view;
+    let time = rest.time;
     show::flag(b"\n  scene ended=", rest.ended);
-    time(rest.timed, rest.time);
+    show::time(time);
     show::byte(b" limit=", rest.limit);
     show::word(b" view=", view.0);
     show::byte(b" pause=", rest.pause);

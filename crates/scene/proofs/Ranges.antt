@@ -9,7 +9,10 @@ use lib.Dec.{leb, ltb, eqb}
 use lib.ListN.{length, length-map}
 use Rattle.dem.specs.Scene.{inRange, timeInRange}
 use Rattle.dem.proofs.RangeLaws.{time-bits}
-use Rattle.scene.specs.Views.{sceneWith, timeOf, lineOf}
+use Rattle.message.specs.declared.Time.{Time}
+use Rattle.message.specs.declared.Time.the-variants.{At}
+use Rattle.message.specs.Values.{timeOf}
+use Rattle.scene.specs.Views.{sceneWith, lineOf}
 use Rattle.scene.specs.declared.Rest.{Rest}
 
 -- An array's length, as owning it tells it.
@@ -18,18 +21,18 @@ length-of f l n e = sym (length-map l f) ∙ e
 
 module _ (b e : List (List ℕ)) (p : List Bool) (x : Rest) (n : length (x .players) ≡ 16) where
   pub range-is : (v s l : Bool) → ltb (x .view .0) 449 ≡ v → leb (x .statics) 128 ≡ s → leb (x .limit) 16 ≡ l
-      → (v && s && l && timeInRange (timeOf (x .timed) (x .time)) && true) ≡ inRange (sceneWith b e p x)
+      → (v && s && l && timeInRange (timeOf (x .time)) && true) ≡ inRange (sceneWith b e p x)
   unfolding inRange sceneWith
   range-is v s l ev es el =
       let en : eqb (length (map lineOf (x .players))) 16 ≡ true = eq-eqb _ 16 (length-map (x .players) lineOf ∙ n) in
       rw (ev, es, el, en)
 
 -- The last test but one: the time, if there is one.
-abbrev pub within : ℕ → Bool → Bool
-within t timed = true && true && true && timeInRange (timeOf timed t) && true
+abbrev pub within : Time → Bool
+within t = true && true && true && timeInRange (timeOf t) && true
 
-pub time-is : (t : ℕ) → t < 2 ^ 32 → ltb t 2139095040 ≡ within t true
-time-is t h = sym (ap (λ (b : Bool). b && true) (time-bits t h) ∙ same (ltb t 2139095040))
+pub time-is : (bits : ℕ) → bits < 2 ^ 32 → ltb bits 2139095040 ≡ within (At bits)
+time-is bits h = sym (ap (λ (b : Bool). b && true) (time-bits bits h) ∙ same (ltb bits 2139095040))
   where
     same : (b : Bool) → (b && true) ≡ b
     same true = refl

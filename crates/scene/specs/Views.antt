@@ -2,7 +2,6 @@
 use mathlib.Core.Path.{_≡_}
 use mathlib.Core.List.{List, [], _∷_, _++_, map}
 use mathlib.Core.Bool.{Bool, true, cond, _||_}
-use mathlib.Core.Option.{Option, none, some}
 use Prim.Native.Nat.{ℕ}
 use lib.Dec.{eqb}
 use mir.Val.{ofZ}
@@ -15,7 +14,7 @@ use Rattle.dem.specs.Message.{isUpdate}
 use Rattle.message.specs.declared.Message.{Message}
 use Rattle.message.specs.declared.Message.the-variants as M
 use Rattle.message.specs.declared.Update.{Update}
-use Rattle.message.specs.Values.{lookValues, poseValues, motionValues, armsValues, suppliesValues, vectorValues, long}
+use Rattle.message.specs.Values.{lookValues, poseValues, motionValues, armsValues, suppliesValues, vectorValues, timeOf, long}
 use Rattle.scene.specs.declared.Baseline.{Baseline}
 use Rattle.scene.specs.declared.Record.{Record}
 use Rattle.scene.specs.declared.Client.{Client}
@@ -66,9 +65,6 @@ recordNumbers r = numbers (recordValues r)
 abbrev pub lineOf : PlayerLine → Line
 lineOf p = record { frags = ofZ w16 (p .frags); colours = p .colours }
 
-abbrev pub timeOf : Bool → ℕ → Option ℕ
-timeOf timed time = cond timed (some time) none
-
 -- The scene of these tables and this rest.
 unfoldable pub sceneWith : List (List ℕ) → List (List ℕ) → List Bool → Rest → Described
 sceneWith baselines records present x =
@@ -82,7 +78,7 @@ sceneWith baselines records present x =
       pause = x .pause;
       statics = x .statics;
       limit = x .limit;
-      time = timeOf (x .timed) (x .time);
+      time = timeOf (x .time);
       ended = x .ended;
       players = map lineOf (x .players);
     }

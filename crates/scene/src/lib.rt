@@ -1,12 +1,13 @@
 // The scene: what all messages so far lead to.
 ghost use mathlib.Core.Path.{_≡_};
 ghost use mathlib.Core.List.{List, [], _∷_, map};
-ghost use mathlib.Core.Bool.{Bool, cond};
+ghost use mathlib.Core.Bool.{Bool, false, cond};
 ghost use Prim.Native.Nat.{ℕ, _<_, _/_, _%_};
-ghost use lib.ListN.{take, drop};
+ghost use lib.ListN.{take, drop, replicate};
 ghost use mir.Syntax.{w16, w32};
 ghost use mir.Val.{ofZ};
 ghost use Rattle.dem.specs.Kind;
+ghost use Rattle.dem.specs.Limits.{entityCount};
 ghost use Rattle.dem.specs.Bytes.{isSet, bit};
 ghost use Rattle.dem.specs.Layout.{Value, number, numbers, tail};
 ghost use Rattle.dem.specs.Masked.{fillSlots};
@@ -26,6 +27,7 @@ use message::Player;
 use message::Pose;
 use message::Sound;
 use message::Supplies;
+use message::Time;
 use message::Update;
 use message::Vector;
 
@@ -82,8 +84,7 @@ pub struct Rest {
     pub pause: u8,
     pub statics: u8,
     pub limit: u8,
-    pub timed: bool,
-    pub time: u32,
+    pub time: Time,
     pub ended: bool,
     pub players: [PlayerLine; 16],
 }
@@ -187,8 +188,7 @@ fn cleared_rest(limit: u8) -> Rest
         pause: 0,
         statics: 0,
         limit,
-        timed: false,
-        time: 0,
+        time: Time::None,
         ended: false,
         players,
     }
@@ -208,10 +208,11 @@ pub fn in_range(x: Rest) -> bool
     if 16 < x.limit {
         return false;
     }
-    if x.timed {
-        return x.time < 2139095040;
+    let time = x.time;
+    match time {
+        Time::None => true,
+        Time::At(bits) => bits < 2139095040,
     }
-    true
 }
 
 // ---- filling in: a field as sent where the mask's bit of this weight is set, or else its default
@@ -488,6 +489,27 @@ pub fn with_client(x: Rest, c: Client) -> Rest
     y
 }
 
+// After a time, which also clears the marks.
+pub fn with_time(x: Rest, bits: u32) -> Rest
+    ensures { λ r. ⌜ ((b e : List (List ℕ)) (p : List Bool) → sceneWith b e (replicate entityCount false) r ≡ apply (sceneWith b e p x) (number Kind.time ∷ number bits ∷ [])) ⌝ }
+{
+    let stats = x.stats;
+    let client = x.client;
+    let view = x.view;
+    let players = x.players;
+    Rest {
+        stats,
+        client,
+        view,
+        pause: x.pause,
+        statics: x.statics,
+        limit: x.limit,
+        time: Time::At(bits),
+        ended: x.ended,
+        players,
+    }
+}
+
 // After any message. An update and a baseline change the tables only.
 pub fn apply_rest(x: Rest, m: Message) -> Rest
     requires { ⌜ x .statics < 255 ⌝ }
@@ -504,11 +526,7 @@ pub fn apply_rest(x: Rest, m: Message) -> Rest
             y.view = e;
             y
         }
-        Message::Time(t) => {
-            y.timed = true;
-            y.time = t;
-            y
-        }
+        Message::Time(bits) => with_time(x, bits),
         Message::Serverinfo(s) => cleared_rest(s.limit),
         Message::Frags(p, v) => with_frags(x, p, v),
         Message::Clientdata(c) => with_client(x, fill_client(c)),

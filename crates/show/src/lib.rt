@@ -2,6 +2,7 @@
 // digits as it has.
 use message::Look;
 use message::Pose;
+use message::Time;
 use message::Vector;
 use wire::Text;
 
@@ -106,6 +107,13 @@ pub fn bits(name: &[u8], v: u32) {
 
 pub fn long(name: &[u8], v: i32) {
     bits(name, pieces::unsigned32(v));
+}
+
+pub fn time(t: Time) {
+    match t {
+        Time::None => say(b" time=none"),
+        Time::At(v) => bits(b" time=", v),
+    }
 }
 
 pub fn flag(name: &[u8], set: bool) {

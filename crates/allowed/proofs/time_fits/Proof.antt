@@ -1,13 +1,18 @@
--- `allowed::time_fits` meets its contract: sign and exponent are one bound.
+-- `allowed::time_fits` meets its contract: a time that is read is tested likewise.
 -- Assumes nothing.
-use Rattle.allowed.proofs.Messages.{time-test}
+use mathlib.Core.Path.{ap, _∙_}
+use mathlib.Core.Bool.{not, Bool·not-not}
+use borrow.Author.Needs.{needs}
+use Rattle.allowed.specs.Tests.{timeTest}
 use Rattle.allowed.proofs.time_fits.Statement.{statement}
 use Rattle.allowed.proofs.time_fits.Tie as tie
 
+is-wrong-time-requires : tie.Need-is-wrong-time-requires
+is-wrong-time-requires c κs = search needs
+
 returns : tie.Need-returns
-returns c =
-    let s = c .before .before in
-    time-test (s .args .x) (s .args .bits) (s .fits .bits .fits)
+unfolding timeTest
+returns c = ap not (c .is-wrong-time .ensures) ∙ Bool·not-not _
 
 pub time-fits-spec : {M : Type 1} → statement M
-time-fits-spec = tie.close (tie.spec returns)
+time-fits-spec = tie.close (tie.spec is-wrong-time-requires returns)

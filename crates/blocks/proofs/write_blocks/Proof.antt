@@ -52,7 +52,7 @@ use Rattle.blocks.specs.Marks.{marked}
 use Rattle.blocks.proofs.Marks.{Within, within-more, within-bits, marked-set, marked-none, marked-bits, Before, before-later, before-marked, before-timed}
 use Rattle.blocks.proofs.SoFar.{and-false, soFar, far-begins, Grown, grown-kept, grown-behind}
 use Rattle.blocks.proofs.Turns.{Moved, before-stop, head-refused, head-found, moved-less, moved-short, moved-range, blockBytes, block-length, put-block-there, put-length, closed, closed-short, closed-fits, inside, on-refused, on-moved, on-end, run-over, run-refused, run-opened}
-use Rattle.blocks.proofs.Arms.{held, noBaseline, quick-moved, kept-form, timed, ended-refused, kind-parsed, parsed-refused, update-parsed, update-known, update-moved, time-moved, ClientRead, client-read, kept-client, client-moved, sound-moved, passed-parsed, passed-moved, other-parsed, baseline-known, baseline-moved, serverinfo-moved, cleared-present, rest-moved}
+use Rattle.blocks.proofs.Arms.{held, noBaseline, quick-moved, kept-form, ended-refused, kind-parsed, parsed-refused, update-parsed, update-known, update-moved, time-moved, ClientRead, client-read, kept-client, client-moved, sound-moved, passed-parsed, passed-moved, other-parsed, baseline-known, baseline-moved, serverinfo-moved, cleared-present, rest-moved}
 use Rattle.blocks.proofs.write_blocks.Statement.{statement}
 use Rattle.blocks.proofs.write_blocks.Tie as tie
 
@@ -828,9 +828,9 @@ came c =
     _ (λ e. e) (λ on e. let z : true ≡ false = sym on ∙ e in clash (cc)) _ _ _ (w .6 .ensures x)))
     (⊎-elim
     (λ w.
-    cleared-marks c (k .baselines) (k .records) (timed (k .rest) (w .2 .result .value)) (w .2 .result .cursor .at) (w .5) (w .6) (w .7) (w .8) (w .9) (w .10) (w .11) (w .12) (w .13)
-    (time-moved s (k .at) l (k .baselines) (k .records) (present k) (k .rest) g h (w .2 .result .value) (w .2 .result .cursor)
-    (time-parsed (record { before = record { before = record { before = c .before; match = w .0 }; context = w .1 }; time-at = w .2 })) (w .4 .left)))
+    cleared-marks c (k .baselines) (k .records) (w .5 .result) (w .2 .result .cursor .at) (w .6) (w .7) (w .8) (w .9) (w .10) (w .11) (w .12) (w .13) (w .14)
+    (time-moved s (k .at) l (k .baselines) (k .records) (present k) (k .rest) g h (w .2 .result .value) (w .5 .result) (w .2 .result .cursor)
+    (time-parsed (record { before = record { before = record { before = c .before; match = w .0 }; context = w .1 }; time-at = w .2 })) (w .4 .left) (w .5 .ensures)))
     (⊎-elim
     (λ w.
     let r : tie.After-client-at Inv-loop3 μ-loop3 Inv-loop4 μ-loop4 Inv-loop2 μ-loop2 Inv-loop μ-loop = record { before = record { before = c .before; match = w .0 }; client-at = w .1 } in
@@ -1229,6 +1229,9 @@ returns-3 : tie.Need-returns-3 Inv-loop3 μ-loop3 Inv-loop4 μ-loop4 Inv-loop2 �
 returns-3 c =
     refuse-parsed (message (c .before .before .before .before .before .before .before)) _ (c .before .before .before .time-at .result .cursor) (time-parsed (c .before .before .before)) (c .before .if16 .taken) (c .refused-in3 .result) (c .refused-in3 .ensures)
 
+with-time-requires : tie.Need-with-time-requires Inv-loop3 μ-loop3 Inv-loop4 μ-loop4 Inv-loop2 μ-loop2 Inv-loop μ-loop
+with-time-requires c κs = search needs
+
 add-client-at : tie.Need-add-client-at Inv-loop3 μ-loop3 Inv-loop4 μ-loop4 Inv-loop2 μ-loop2 Inv-loop μ-loop
 add-client-at c = place-fits (message (c .before .before))
 
@@ -1594,6 +1597,7 @@ write-blocks-spec =
     refused-in-requires-3
     same-length-3
     returns-3
+    with-time-requires
     add-client-at
     client-at-requires
     refused-in-requires-4

@@ -28,6 +28,9 @@ enum-known-m-2 c = search needs
 enum-known-m-3 : tie.Need-enum-known-m-3
 enum-known-m-3 c = search needs
 
+with-time-requires : tie.Need-with-time-requires
+with-time-requires c κs = search needs
+
 enum-known-m-4 : tie.Need-enum-known-m-4
 enum-known-m-4 c = search needs
 
@@ -94,7 +97,9 @@ returns-3 c b e p t n = after-match (c .before .before .before .args .x) b e p t
 
 returns-4 : tie.Need-returns-4
 unfolding sceneWith apply fill
-returns-4 c b e p t n = after-match (c .before .before .before .args .x) b e p t _ _ (c .before .m3 .given .1)
+returns-4 c b e p t n =
+    ap (withTables [] [] []) (c .with-time .ensures b e p)
+    ∙ after-match (c .before .before .before .before .args .x) b e p t _ _ (c .before .before .m3 .given .1)
 
 returns-5 : tie.Need-returns-5
 unfolding sceneWith apply fill
@@ -153,6 +158,7 @@ apply-rest-spec =
     with-stat-requires
     enum-known-m-2
     enum-known-m-3
+    with-time-requires
     enum-known-m-4
     cleared-rest-requires
     enum-known-m-5

@@ -45,7 +45,7 @@ returns-2 : tie.Need-returns-2
 unfolding sceneWith apply
 returns-2 c b e m =
     let x = c .before .before .args .t1 in
-    let n = length-of _ (x .players) 16 (c .before .before .good .0 .1 .1 .1 .1 .1 .1 .1 .1 .1 .1 .1 .0 .1 .0 .1) in
+    let n = length-of _ (x .players) 16 (c .before .before .good .0 .1 .1 .1 .1 .1 .1 .1 .1 .1 .1 .0 .1 .0 .1) in
     ap (λ l. withPlayers l (sceneWith b e m x)) (set-past lineOf (x .players) (c .before .before .args .p .0) _ (omega (arith, n)))
 
 pub with-colours-spec : {M : Type 1} → statement M

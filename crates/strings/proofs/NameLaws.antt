@@ -3,7 +3,10 @@
 use mathlib.Core.Path.{_≡_, refl, sym, ap, _∙_}
 use mathlib.Core.List.{List, [], _∷_, _++_, append-assoc, append-nil}
 use mathlib.Core.Bool.{Bool, true, false, cond}
-use Prim.Native.Nat.{ℕ, zero, suc}
+use Prim.Native.Nat.{ℕ, zero, suc, _+_}
+use native.Mathlib.Omega.{arith}
+use lib.Dec.{eqb}
+use lib.ListN.{length, length-append}
 use Rattle.dem.specs.Limits.{stringLimit}
 use Rattle.dem.specs.Refusal.{wrongNumber}
 use Rattle.dem.specs.Bytes.{unless, free, writeString}
@@ -38,15 +41,61 @@ string-strings rule k h (number v ∷ vs) a = absurd a
 string-strings rule k h (text t ∷ vs) a = name-first stringLimit [] t (print (k t) vs) (a .0)
     ∙ ap (λ (l : List Value). text t ∷ l) (h t vs (a .2))
 
-either-strings : (b : Bool) (k l : Layout) → Strings k → Strings l → Strings (cond b k l)
-either-strings true k l p q = p
-either-strings false k l p q = q
+-- Serverinfo's two lists, of at most m names each: what holds of layouts of strings alone.
+module _ (P : Layout → Type 0) (none : P done) (one : (rule : List ℕ → ℕ) (k : List ℕ → Layout) → ((t : List ℕ) → P (k t)) → P (string rule k)) where
+  either : (b : Bool) (k l : Layout) → P k → P l → P (cond b k l)
+  either true k l p q = p
+  either false k l p q = q
 
-names-strings : (n : ℕ) (k : Layout) → Strings k → Strings (names n k)
-names-strings zero k h = string-strings (λ t. unless (isEmpty t) wrongNumber) (λ t. k) (λ t. h)
-names-strings (suc n) k h = string-strings free (λ t. cond (isEmpty t) k (names n k))
-    (λ t. either-strings (isEmpty t) k (names n k) h (names-strings n k h))
+  names-all : (n : ℕ) (k : Layout) → P k → P (names n k)
+  names-all zero k h = one (λ t. unless (isEmpty t) wrongNumber) (λ t. k) (λ t. h)
+  names-all (suc n) k h = one free (λ t. cond (isEmpty t) k (names n k)) (λ t. either (isEmpty t) k (names n k) h (names-all n k h))
 
--- Serverinfo's two lists, of at most m names each.
+  lists-all : (m : ℕ) → P (names m (names m done))
+  lists-all m = names-all m (names m done) (names-all m done none)
+
 pub lists-strings : (m : ℕ) (vs : List Value) → Allowed (names m (names m done)) vs → namesIn [] (print (names m (names m done)) vs) ≡ vs
-lists-strings m = names-strings m (names m done) (names-strings m done done-strings)
+lists-strings m = lists-all Strings done-strings string-strings m
+
+-- ---- how many bytes such strings have
+
+-- Strings alone.
+abbrev pub Texts : List Value → Type 0
+Texts [] = Unit {0}
+Texts (number n ∷ vs) = ⊥
+Texts (text t ∷ vs) = Texts vs
+
+-- The bytes of strings, with their zeros.
+abbrev pub namesLength : List Value → ℕ
+namesLength [] = 0
+namesLength (number n ∷ vs) = namesLength vs
+namesLength (text t ∷ vs) = length t + 1 + namesLength vs
+
+pub names-length : (name bs : List ℕ) → Texts (namesIn name bs) → namesLength (namesIn name bs) ≡ length name + length bs
+unfolding namesIn
+names-length [] [] h = refl
+names-length (c ∷ name) [] h = absurd h
+names-length name (b ∷ bs) h = go (eqb b 0) h (names-length [] bs) (names-length (name ++ (b ∷ [])) bs)
+  where
+    go : (z : Bool) → Texts (nameStep z b name (namesIn [] bs) (namesIn (name ++ (b ∷ [])) bs))
+        → (Texts (namesIn [] bs) → namesLength (namesIn [] bs) ≡ 0 + length bs)
+        → (Texts (namesIn (name ++ (b ∷ [])) bs) → namesLength (namesIn (name ++ (b ∷ [])) bs) ≡ length (name ++ (b ∷ [])) + length bs)
+        → namesLength (nameStep z b name (namesIn [] bs) (namesIn (name ++ (b ∷ [])) bs)) ≡ length name + suc (length bs)
+    go true h first more = omega (arith, first h)
+    go false h first more = omega (arith, more h, length-append name (b ∷ []))
+
+-- Layouts of strings alone allow no number.
+abbrev OnlyTexts : Layout → Type 0
+OnlyTexts l = (vs : List Value) → Allowed l vs → Texts vs
+
+done-texts : OnlyTexts done
+done-texts [] a = tt
+done-texts (v ∷ vs) a = absurd a
+
+string-texts : (rule : List ℕ → ℕ) (k : List ℕ → Layout) → ((t : List ℕ) → OnlyTexts (k t)) → OnlyTexts (string rule k)
+string-texts rule k h [] a = absurd a
+string-texts rule k h (number v ∷ vs) a = absurd a
+string-texts rule k h (text t ∷ vs) a = h t vs (a .2)
+
+pub lists-texts : (m : ℕ) (vs : List Value) → Allowed (names m (names m done)) vs → Texts vs
+lists-texts m = lists-all OnlyTexts done-texts string-texts m

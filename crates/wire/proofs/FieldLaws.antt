@@ -1,7 +1,7 @@
 -- Values of declared types as numbers, and back: signed numbers by their bits, a yes or no as 1 or 0, a struct by its fields in turn. What
 -- code can hold is read back from its numbers, so that two values with the same numbers are the same.
 -- Assumes nothing.
-use mathlib.Core.Path.{_≡_, refl, ap, _∙_}
+use mathlib.Core.Path.{_≡_, refl, sym, ap, _∙_}
 use mathlib.Core.List.{List, [], _∷_, _++_, append-assoc, map}
 use mathlib.Core.Bool.{Bool, true, false}
 use Prim.Native.Nat.{ℕ}
@@ -23,6 +23,14 @@ use Rattle.dem.specs.Bytes.{isSet, bitOf}
 -- Code can hold this value: its type relates it to some machine values.
 abbrev pub Held : (R : RattleType) → R .Denot → Type 0
 Held R x = (vs : List Val) × Is R x vs
+
+-- What is seen of a value fixes it, among those that code can hold.
+abbrev pub Fixed : (R : RattleType) {X : Type 0} → (R .Denot → X) → Type 0
+Fixed R view = (x y : R .Denot) → Held R x → Held R y → view x ≡ view y → x ≡ y
+
+pub fixed-by : (R : RattleType) {X : Type 0} (view : R .Denot → X) (undo : X → R .Denot) → ((x : R .Denot) → Held R x → undo (view x) ≡ x)
+    → Fixed R view
+fixed-by R view undo undone x y p q e = sym (undone x p) ∙ ap undo e ∙ undone y q
 
 -- A field's value as numbers, and a value read from the front of some, with those behind it.
 pub record AsNumbers (F : Field) : Type 2 where
@@ -109,16 +117,24 @@ module _ (N : Record) (plain : (v : Values (N .parts)) → N .Ghost v) (props : 
   abbrev pub struct : AsNumbers (field (declared N props))
   struct = record { out = λ d. outs (N .parts) cs (N .as-values d); back = struct-back; same = struct-same }
 
--- ---- arrays: a view that is undone for each element is undone for all
+-- ---- lists and arrays: a view that is undone for each element is undone for all
+
+abbrev pub Each : {A : Type 0} → (A → Type 0) → List A → Type 0
+Each P [] = Unit {0}
+Each P (x ∷ xs) = P x × Each P xs
 
 module _ (F : Field) {X : Type 0} (view : F .Value → X) (undo : X → F .Value)
     (undone : (x : F .Value) (vs : List Val) → Is (F .row) (F .into x) vs → undo (view x) ≡ x) where
-  each-undone : (xs : List (F .Value)) (us : List Val) → shadow (each (F .row .Denot) (F .row .own) (map (F .into) xs) us)
-      → map undo (map view xs) ≡ xs
-  each-undone [] us h = refl
-  each-undone (x ∷ xs) [] h = absurd h
-  each-undone (x ∷ xs) (u ∷ us) h = λ i. undone x (u ∷ []) (h .0) i ∷ each-undone xs us (h .1) i
+  pub list-undone : (xs : List (F .Value)) → Each (λ x. Held (F .row) (F .into x)) xs → map undo (map view xs) ≡ xs
+  list-undone [] h = refl
+  list-undone (x ∷ xs) h = λ i. undone x (h .0 .0) (h .0 .1) i ∷ list-undone xs (h .1) i
+
+  each-held : (xs : List (F .Value)) (us : List Val) → shadow (each (F .row .Denot) (F .row .own) (map (F .into) xs) us)
+      → Each (λ x. Held (F .row) (F .into x)) xs
+  each-held [] us h = tt
+  each-held (x ∷ xs) [] h = absurd h
+  each-held (x ∷ xs) (u ∷ us) h = ((u ∷ [], h .0), each-held xs us (h .1))
 
   pub array-undone : (n : ℕ) (xs : List (F .Value)) (vs : List Val) → Is (array-field F n .row) (array-field F n .into xs) vs
       → map undo (map view xs) ≡ xs
-  array-undone n xs vs h = each-undone xs (h .0) (h .1 .1)
+  array-undone n xs vs h = list-undone xs (each-held xs (h .0) (h .1 .1))

@@ -27,6 +27,13 @@ Replied s r = GivenBack s (r .scene) (r .answer)
 abbrev pub Wrote : {S A : Type 0} → S → Written S A → Type 0
 Wrote s w = GivenBack s (w .scene) (w .answer)
 
+-- What holds through a view, where the view fixes the two scenes.
+pub given-through : {S U A : Type 0} (view : S → U) (s u : S) → (view u ≡ view s → u ≡ s) → (a : Answer A) → GivenBack (view s) (view u) a
+    → GivenBack s u a
+given-through view s u fixed (result a) g = tt
+given-through view s u fixed atEnd g = fixed g
+given-through view s u fixed (refusal n p) g = fixed g
+
 either : {A : Type 0} (P : A → Type 0) (b : Bool) (x y : A) → P x → P y → P (cond b x y)
 either P true x y p q = p
 either P false x y p q = q

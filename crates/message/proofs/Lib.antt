@@ -1,1 +1,3 @@
 pub mod InPlace
+pub mod Structs
+pub mod Back

@@ -121,22 +121,21 @@ messageFrom end vs =
 
 -- ---- strings
 
-module _ (s : List ℕ) (end : ℕ) (within : end ≤ length s) where
-  inside : (p : Text) → p .start + p .len ≤ length s → length (placed s p) ≡ p .len
-  inside p h =
-      ap length (placed-inside s p h) ∙ length-take-le (p .len) (drop (p .start) s) (omega (arith, length-drop (p .start) s))
+inside : (s : List ℕ) (p : Text) → p .start + p .len ≤ length s → length (placed s p) ≡ p .len
+inside s p h = ap length (placed-inside s p h) ∙ length-take-le (p .len) (drop (p .start) s) (omega (arith, length-drop (p .start) s))
 
+module _ (s : List ℕ) (end : ℕ) (within : end ≤ length s) where
   ending-back : (p : Text) → endsAt end p ≡ true → ending end (placed s p) ≡ p
   ending-back p e =
       let h : p .start + p .len + 1 ≡ end = eqb-true (p .start + p .len + 1) end e in
-      let n : length (placed s p) ≡ p .len = inside p (omega arith) in
+      let n : length (placed s p) ≡ p .len = inside s p (omega arith) in
       let a : end - (length (placed s p) + 1) ≡ p .start = omega arith in
       λ i. record { start = a i; len = n i }
 
   names-back : (p : Text) → eqb (p .start + p .len) end ≡ true → Texts (namesIn [] (placed s p)) → namesEnding end (namesIn [] (placed s p)) ≡ p
   names-back p e t =
       let h : p .start + p .len ≡ end = eqb-true (p .start + p .len) end e in
-      let n : namesLength (namesIn [] (placed s p)) ≡ p .len = names-length [] (placed s p) t ∙ omega (arith, inside p (omega arith)) in
+      let n : namesLength (namesIn [] (placed s p)) ≡ p .len = names-length [] (placed s p) t ∙ omega (arith, inside s p (omega arith)) in
       let a : end - namesLength (namesIn [] (placed s p)) ≡ p .start = omega arith in
       λ i. record { start = a i; len = n i }
 

@@ -68,7 +68,8 @@ module _ (s : Scene) where
   pub outline-given : (input : List ℕ) (place : ℕ) → Replied s (outlineAt s input place)
   outline-given input place = told (blockAt s input place .answer) (item-given blocks s input place)
     where
-      told : (a : Answer (Item Block Block)) → GivenBack s (blockAt s input place .scene) a → GivenBack s (blockAt s input place .scene) (outlineOf place a)
+      told : (a : Answer (Item Block Block)) → GivenBack s (blockAt s input place .scene) a
+          → GivenBack s (blockAt s input place .scene) (outlineOf place a)
       told (result i) h = tt
       told atEnd h = h
       told (refusal n p) h = h

@@ -202,8 +202,8 @@ module _ (x : Context) (s : List ℕ) (end : ℕ) (within : end ≤ length s) wh
   back M.Sellscreen h e a u = refl
   back (M.Cutscene p) h e a u = ap M.Cutscene (ending-back s end within p e)
   back (M.Update d) h e a u =
-      ap (λ (b : Bool). cond b (M.Update (from update (update .out d))) (getD kinds (d .number) (plain (λ ns. M.Nop)) end (tail (updateValues d)))) (u d refl)
-      ∙ ap M.Update (from-front update d _ (h .0) [])
+      let other = getD kinds (d .number) (plain (λ ns. M.Nop)) end (tail (updateValues d)) in
+      ap (λ (b : Bool). cond b (M.Update (from update (update .out d))) other) (u d refl) ∙ ap M.Update (from-front update d _ (h .0) [])
 
   -- What holds of a message that was read from these bytes and ends there.
   pub record Read (m : Message) : Type 0 where

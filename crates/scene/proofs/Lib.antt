@@ -2,3 +2,5 @@ pub mod Ranges
 pub mod Changes
 pub mod Filling
 pub mod Applied
+pub mod Back
+pub mod FilledBack

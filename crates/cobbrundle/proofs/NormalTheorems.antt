@@ -1,37 +1,38 @@
 -- What the promises of the entries that write normal forms say of whole recordings: demand 3, for the bytes that the library writes; and
--- the same bytes by a call for the track line and one for each block.
+-- the same bytes by a call for the track line and one for each block, which succeed exactly if one call for all does.
 -- Assumes nothing.
-use mathlib.Core.Path.{_≡_, refl, sym, ap, ap₂, _∙_, subst}
+use mathlib.Core.Path.{_≡_, refl, sym, ap, ap₂, _∙_, subst, subst₂}
 use mathlib.Core.Logic.{_↔_}
 use mathlib.Core.List.{List, _++_}
 use mathlib.Core.Bool.{Bool, true, false}
 use mathlib.Core.Option.{some}
 use Prim.Native.Nat.{ℕ, _+_, _<_, _≤_}
 use native.Mathlib.Omega.{arith}
-use borrow.Author.Tests.{eqb-true, eqb-false, ltb-true, ltb-false}
-use lib.Dec.{eqb, ltb}
+use borrow.Author.Tests.{ltb-true, ltb-false}
+use lib.Dec.{ltb}
 use lib.ListN.{length, take, drop}
 use lib.Seq.{take-append-seam, drop-append-seam}
 use Rattle.dem.specs.Bytes.{Bytes, Result, found, refused}
 use Rattle.dem.specs.Scene.{Scene, fresh, inRange}
-use Rattle.dem.specs.Recording.{Block, blocks, Recording, Reading, readRecording, fillRecording, readingOf, reading, sceneAfter, normalForm, placeIn}
-use Rattle.dem.specs.Answer.{Answer, result, atEnd, refusal, Reply, reply, Written, written, Item, Normalised, normalOf, normalAt, Rewriting, normalBlocksAt}
-use Rattle.dem.specs.Answer.{trackNormal, wholeNormal}
+use Rattle.dem.specs.Recording.{blocks, Recording, Reading, readRecording, fillRecording, readingOf, reading, Accepted, sceneAfter, normalForm}
+use Rattle.dem.specs.Recording.{placeIn}
+use Rattle.dem.specs.Answer.{Answer, result, refusal, Reply, reply, Written, written, Normalised, wholeNormal}
 use Rattle.dem.specs.WellFormed.{GoodBlock}
 use Rattle.dem.proofs.ResultLaws.{clash}
-use Rattle.dem.proofs.ByteLaws.{drop-bytes}
-use Rattle.dem.proofs.CodecLaws.{Taken}
 use Rattle.dem.proofs.BlockLaws.{block-lawful}
 use Rattle.dem.proofs.RangeLaws.{fresh-range, block-range}
 use Rattle.dem.proofs.RecordingLaws.{NormalForm, normal-form}
-use Rattle.dem.proofs.AnswerLaws.{item-end, item-past, normal-accepted, normal-refused, room-enough, room-short}
-use Rattle.dem.proofs.WrittenLaws.{Normalises, callWritten, callShort, callRefused, normalises, Stepped, written-step}
-use Rattle.dem.proofs.RewritingLaws.{rewritingLed, rewrittenLed, nothingWritten, normal-blocks-step, normal-blocks-end, whole-normal-by-calls}
+use Rattle.dem.proofs.AnswerLaws.{normal-accepted, normal-refused, room-enough, room-short}
+use Rattle.dem.proofs.NormalCallLaws.{WroteItem, normal-end-told, normal-refusal-told, normal-found-told, AllWritten, NoneWritten, written-end}
+use Rattle.dem.proofs.NormalCallLaws.{none-written, written-first, none-behind, NormalWritten, NormalUnwritten, normal-written, normal-unwritten}
+use Rattle.dem.proofs.NormalCallLaws.{normal-track-within, normal-no-track}
+use Rattle.scene.specs.declared.Scene.{Scene as Held}
 use Rattle.scene.specs.Views.{sceneOf}
-use Rattle.cobbrundle.specs.Replies.{countOf, writtenOf, trackWrittenOf}
+use Rattle.cobbrundle.specs.Replies.{countOf, writtenOf}
+use Rattle.cobbrundle.specs.Calls.{Outcome, toEnd, toRefusal, WritesBlock, NormalCalls, noForm, formRefused, nextForm}
+use Rattle.cobbrundle.specs.Calls.{NormalRecordingCalls, lineRefused, behindLine}
 use Rattle.cobbrundle.specs.declared.WriteReply.{WriteReply}
-use Rattle.cobbrundle.specs.declared.TrackNormalAnswer.{TrackNormalAnswer}
-use Rattle.cobbrundle.specs.declared.TrackNormalAnswer.the-variants as N
+use Rattle.cobbrundle.specs.declared.NormalAnswer.the-variants as N
 
 abbrev count-of : Written Scene ℕ → Answer ℕ
 count-of w = w .answer
@@ -147,86 +148,83 @@ equal-exactly r r₂ room room₂ h h₂ a a₂ out out₂ p p₂ n n₂ c c₂ 
 
 -- ---- by blocks
 
--- A call for each block's normal form up to the end, each in the scene and the room that the one before it left: the scene after them, how
--- many bytes they wrote, and the room.
-pub data BlockCalls (r : List ℕ) : Scene → ℕ → List ℕ → Scene → ℕ → List ℕ → Type 0 where
-  noBlock : {s : Scene} {place : ℕ} {room : List ℕ} → normalAt blocks s r place room ≡ written (reply s atEnd) room
-      → BlockCalls r s place room s 0 room
-  nextBlock : {s t u : Scene} {place n : ℕ} {room mid out : List ℕ} {z : Normalised}
-      → normalAt blocks s r place room ≡ written (reply t (result z)) mid → BlockCalls r t (z .next) (drop (z .length) mid) u n out
-      → BlockCalls r s place room u (z .length + n) (take (z .length) mid ++ out)
-
-abbrev told-of : Written Scene Normalised → Answer Normalised
-told-of w = w .answer
+-- Of a call for the track line and one for each block: they come to the end exactly if the recording is accepted and the room is enough for its
+-- normal form. That is then what they write, and the room behind it and the scene are those that one call of `normal_recording` leaves.
+pub record ByBlocks (r room : List ℕ) (y : Held) (n : ℕ) (out : List ℕ) (o : Outcome) : Type 0 where
+  pub exactly : (o ≡ toEnd) ↔ (Accepted r × (length (normalForm r) ≤ length room))
+  pub wrote : o ≡ toEnd → NormalWritten r room (sceneOf y) n out
+  pub whole : o ≡ toEnd → (a : WriteReply) (all : List ℕ) → writtenOf a all ≡ wholeNormal r room
+      → (countOf (a .answer) ≡ result n) × (all ≡ out) × (sceneOf (a .scene) ≡ sceneOf y)
 
 module _ (r : List ℕ) (h : Bytes r) where
-  module _ (s : Scene) (place : ℕ) (room : List ℕ) (i : inRange s ≡ true) where
-    -- What a call answers at the end and past it.
-    end-of : place ≡ length r → told-of (normalAt blocks s r place room) ≡ atEnd
-    unfolding normalAt
-    end-of e = ap (λ (x : Reply Scene (Item Block Block)). told-of (normalOf blocks s r (x .scene) room (x .answer))) (item-end blocks s r place i e)
+  -- What the calls say of the blocks from a place on.
+  abbrev FormsTold : Outcome → Held → ℕ → List ℕ → Held → ℕ → List ℕ → Type 0
+  FormsTold toEnd x at room y n out = AllWritten blocks (sceneOf x) (drop at r) room (sceneOf y) n out
+  FormsTold toRefusal x at room y n out = NoneWritten blocks (sceneOf x) (drop at r) room
 
-    past-of : length r < place → told-of (normalAt blocks s r place room) ≡ refusal 5 place
-    unfolding normalAt
-    past-of e = ap (λ (x : Reply Scene (Item Block Block)). told-of (normalOf blocks s r (x .scene) room (x .answer))) (item-past blocks s r place i e)
+  module _ (x y : Held) (at size next : ℕ) (room mid : List ℕ) (e : WritesBlock x r at room (N.Written size next) y mid) where
+    abbrev form : Normalised
+    form = record { length = size; next = next }
 
-    -- A call that writes stands before the end.
-    block-inside : (z : Normalised) → told-of (normalAt blocks s r place room) ≡ result z → place < length r
-    block-inside z e = go (eqb place (length r)) refl (ltb (length r) place) refl
+    pub wrote-one : WroteItem blocks GoodBlock (sceneOf x) r at room (sceneOf y) form mid
+    wrote-one = normal-found-told blocks (sceneOf x) r at room (sceneOf y) mid GoodBlock block-lawful h form (sym e)
+
+    one-range : inRange (sceneOf x) ≡ true → inRange (sceneOf y) ≡ true
+    one-range i = ap inRange (wrote-one .found .after) ∙ block-range (sceneOf x) (wrote-one .item) (wrote-one .found .good) i
+
+    form-led : (o : Outcome) (z : Held) (n : ℕ) (out : List ℕ) → FormsTold o y next (drop size mid) z n out
+        → FormsTold o x at room z (size + n) (take size mid ++ out)
+    form-led toEnd z n out k = written-first blocks (sceneOf x) r at room GoodBlock block-lawful h (sceneOf y) form mid wrote-one (sceneOf z) n out k
+    form-led toRefusal z n out k = none-behind blocks (sceneOf x) r at room GoodBlock block-lawful h (sceneOf y) form mid wrote-one k
+
+  forms-told : {x y : Held} {at n : ℕ} {room out : List ℕ} {o : Outcome} → NormalCalls r x at room y n out o → inRange (sceneOf x) ≡ true
+      → at ≤ length r → FormsTold o x at room y n out
+  forms-told (noForm {x} {y} {at} {room} {out} e) i l =
+      let k = normal-end-told blocks (sceneOf x) r at room (sceneOf y) out (sym e) in
+      subst₂ (λ (u : Scene) (z : List ℕ). AllWritten blocks (sceneOf x) (drop at r) room u 0 z) (sym (k .1)) (sym (k .2))
+      (written-end blocks (sceneOf x) r at room (k .0))
+  forms-told (formRefused {x} {y} {at} {n} {p} {room} {out} e) i l =
+      none-written blocks (sceneOf x) r at room GoodBlock block-lawful h
+      (normal-refusal-told blocks (sceneOf x) r at room (sceneOf y) out i l n p (sym e))
+  forms-told (nextForm {x} {y} {z} {at} {size} {next} {n} {room} {mid} {out} {o} e w) i l =
+      form-led x y at size next room mid e o z n out
+      (forms-told w (one-range x y at size next room mid e i) (wrote-one x y at size next room mid e .found .within))
+
+  module _ (room : List ℕ) where
+    came-through : (y : Held) (n : ℕ) (out : List ℕ) → NormalWritten r room (sceneOf y) n out → ByBlocks r room y n out toEnd
+    came-through y n out w =
+        record {
+          exactly = (λ q. ((w .reads, w .accepted), w .fits), λ q. refl);
+          wrote = λ q. w;
+          whole = λ q a all c.
+              let x = enough-of r room h a all c (w .reads) (w .accepted) (w .fits) in (
+                ap count-of x ∙ ap result (sym (w .size)),
+                ap room-of x ∙ ap (λ (k : ℕ). normalForm r ++ drop k room) (sym (w .size)) ∙ sym (w .holds),
+                ap scene-of x ∙ sym (w .scene),
+              );
+        }
+
+    came-short : (y : Held) (n : ℕ) (out : List ℕ) → NormalUnwritten r room → ByBlocks r room y n out toRefusal
+    came-short y n out u =
+        record {
+          exactly = (λ q. clash (cc), λ q. let z : ⊥ = omega (arith, u (q .0 .0) (q .0 .1), q .1) in absurd z);
+          wrote = λ q. clash (cc);
+          whole = λ q. clash (cc);
+        }
+
+    pub by-blocks : {y : Held} {n : ℕ} {out : List ℕ} {o : Outcome} → NormalRecordingCalls r room y n out o → ByBlocks r room y n out o
+    by-blocks (lineRefused {n} {p} {x} {out} e f) = came-short x 0 out (normal-no-track r room h n p out (sym e))
+    by-blocks (behindLine {size} {next} {n} {x} {y} {mid} {out} {o} e f w) =
+        go o (forms-told w (ap inRange f ∙ fresh-range) (normal-track-within r room h line mid (sym e)))
       where
-        go : (b : Bool) → eqb place (length r) ≡ b → (c : Bool) → ltb (length r) place ≡ c → place < length r
-        go true p c q = let x : _≡_ {A = Answer Normalised} atEnd (result z) = sym (end-of (eqb-true place (length r) p)) ∙ e in clash (cc)
-        go false p true q = let x : _≡_ {A = Answer Normalised} (refusal 5 place) (result z) = sym (past-of (ltb-true (length r) place q)) ∙ e in clash (cc)
-        go false p false q = omega (arith, eqb-false place (length r) p, ltb-false (length r) place q)
+        line : Normalised
+        line = record { length = size; next = next }
 
-    no-end : {x : Written Scene Normalised} → Normalises blocks s r place room x → told-of x ≡ atEnd → place ≡ length r
-    no-end (callWritten e k) q = clash (cc)
-    no-end (callShort e k) q = clash (cc)
-    no-end (callRefused e) q = clash (cc)
-
-    -- One that answers "end" stands there.
-    end-place : told-of (normalAt blocks s r place room) ≡ atEnd → place ≡ length r
-    end-place e = go (eqb place (length r)) refl (ltb (length r) place) refl
-      where
-        go : (b : Bool) → eqb place (length r) ≡ b → (c : Bool) → ltb (length r) place ≡ c → place ≡ length r
-        go true p c q = eqb-true place (length r) p
-        go false p true q = let x : _≡_ {A = Answer Normalised} (refusal 5 place) atEnd = sym (past-of (ltb-true (length r) place q)) ∙ e in clash (cc)
-        go false p false q =
-            let l : place < length r = omega (arith, eqb-false place (length r) p, ltb-false (length r) place q) in
-            no-end (normalises blocks GoodBlock block-lawful s r place room h i l) e
-
-    -- The scene that a call leaves is in range.
-    after-range : (t : Scene) (z : Normalised) (out : List ℕ) → place < length r → normalAt blocks s r place room ≡ written (reply t (result z)) out
-        → inRange t ≡ true
-    after-range t z out l e =
-        let k : Stepped blocks s r place room t z out = written-step blocks GoodBlock block-lawful s r place room h i l t z out e in
-        let taken : Taken blocks GoodBlock s (drop place r) (k .item) (drop (z .next) r) =
-        block-lawful .sound s (drop place r) (k .item) (drop (z .next) r) (drop-bytes place r h) (k .read) in
-        ap inRange (k .state) ∙ block-range s (k .item) (taken .good) i
-
-  -- The calls for each block are one call for all.
-  blocks-called : {s u : Scene} {place n : ℕ} {room out : List ℕ} → BlockCalls r s place room u n out → inRange s ≡ true
-      → (q : Rewriting) × (normalBlocksAt s r place room ≡ written (reply u (result q)) out) × (q .progress .refusal ≡ 0) × (q .length ≡ n)
-  blocks-called (noBlock {s} {place} {room} e) i =
-      let p : place ≡ length r = end-place s place room i (ap told-of e) in
-      (nothingWritten (length r) 0 (length r), ap (λ (j : ℕ). normalBlocksAt s r j room) p ∙ normal-blocks-end s r room i, refl, refl)
-  blocks-called (nextBlock {s} {t} {place = place} {room = room} {mid = mid} {z = z} e later) i =
-      let l : place < length r = block-inside s place room i z (ap told-of e) in
-      let k = blocks-called later (after-range s place room i t z mid l e) in
-      let step = normal-blocks-step s r place room h i l t z mid e in
-      (rewritingLed (step .0) (z .length) (k .0), step .2 ∙ ap (rewrittenLed (step .0) z mid) (k .1), k .2, ap (λ (j : ℕ). z .length + j) (k .3))
-
-  -- A call for the track line, then one for each block up to the end: the bytes, the room and the scene are those of one call for all.
-  pub by-blocks : (room : List ℕ) (a : WriteReply) (out : List ℕ) → writtenOf a out ≡ wholeNormal r room
-      → (b : TrackNormalAnswer) (mid : List ℕ) → trackWrittenOf b mid ≡ trackNormal r room → (size next : ℕ) → b ≡ N.Written size next
-      → (u : Scene) (n : ℕ) (end : List ℕ) → BlockCalls r fresh next (drop size mid) u n end
-      → (countOf (a .answer) ≡ result (size + n)) × (out ≡ take size mid ++ end) × (sceneOf (a .scene) ≡ u)
-  by-blocks room a out whole b mid track size next is u n end calls =
-      let k = blocks-called calls fresh-range in
-      let z : Normalised = record { length = size; next = next } in
-      let line : trackNormal r room ≡ written (reply (tt {0}) (result z)) mid =
-      sym track ∙ ap (λ (x : TrackNormalAnswer). trackWrittenOf x mid) is in
-      let x : writtenOf a out ≡ written (reply u (result (size + n))) (take size mid ++ end) =
-      whole ∙ whole-normal-by-calls r room h z mid u (k .0) end line (k .1) (k .2)
-      ∙ ap (λ (j : ℕ). written (reply u (result (size + j))) (take size mid ++ end)) (k .3) in
-      (ap count-of x, ap room-of x, ap scene-of x)
+        go : (o : Outcome) → FormsTold o x next (drop size mid) y n out → ByBlocks r room y (size + n) (take size mid ++ out) o
+        go toEnd k =
+            came-through y (size + n) (take size mid ++ out)
+            (normal-written r room h line mid (sym e) (sceneOf y) n out
+            (subst (λ (v : Scene). AllWritten blocks v (drop next r) (drop size mid) (sceneOf y) n out) f k))
+        go toRefusal k =
+            came-short y (size + n) (take size mid ++ out)
+            (normal-unwritten r room h line mid (sym e) (subst (λ (v : Scene). NoneWritten blocks v (drop next r) (drop size mid)) f k))

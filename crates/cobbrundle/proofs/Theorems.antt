@@ -1,36 +1,26 @@
--- What the promises of the public entries say together: a message that was read and is written back has the same bytes, and an update
--- changes no other entity; a recording is read exactly if it is well formed, and what is told of it is its reading.
+-- What the promises of two entries say together: a message that was read and is written back has the same bytes. And demand 2 for one call: a
+-- recording is read exactly if it is well formed, and what is told of it is its reading.
 -- Assumes nothing.
 use mathlib.Core.Path.{_≡_, refl, sym, ap, _∙_}
-use mathlib.Core.List.{List, _∷_, _++_}
-use mathlib.Core.Logic.{_≢_}
-use mathlib.Core.Bool.{true, false}
+use mathlib.Core.List.{List, _++_}
 use Prim.Native.Nat.{ℕ, _-_, _≤_}
 use native.Mathlib.Omega.{arith}
-use lib.ListN.{length, take, drop, getD}
-use lib.Seq.{getD-set-other}
+use lib.ListN.{length, take, drop}
 use Rattle.dem.specs.Bytes.{Bytes, Result, found, refused}
-use Rattle.dem.specs.Kind
-use Rattle.dem.specs.Layout.{Value, number, numbers, tail}
-use Rattle.dem.specs.Scene.{Scene as Described, contextOf, baselineAt, zeroRecord}
-use Rattle.dem.specs.Message.{Message as Values, isUpdate, fillUpdate, fill, apply}
+use Rattle.dem.specs.Scene.{Scene as Described}
+use Rattle.dem.specs.Message.{Message as Values, fill, apply}
 use Rattle.dem.specs.WellFormed.{GoodMessage, WellFormed}
-use Rattle.dem.specs.Recording.{writeMessage, messages, placeIn, Recording, readRecording, writeRecording, fillRecording}
-use Rattle.dem.specs.Recording.{sceneAfter, readingOf, reading}
-use Rattle.dem.specs.Answer.{Answer, result, refusal, Reply, reply, Item, Written, messageAt, writeSent, Summary, summaryOf}
-use Rattle.dem.specs.Answer.{wholeOf, whole}
+use Rattle.dem.specs.Recording.{writeMessage, messages, placeIn, Recording, readRecording, fillRecording, sceneAfter, readingOf, reading}
+use Rattle.dem.specs.Answer.{Answer, result, refusal, Reply, reply, Item, Written, messageAt, writeSent, Summary, summaryOf, wholeOf, whole}
 use Rattle.dem.proofs.ResultLaws.{clash}
 use Rattle.dem.proofs.ByteLaws.{drop-bytes}
 use Rattle.dem.proofs.CodecLaws.{Taken}
-use Rattle.dem.proofs.MessageLaws.{fill-update}
 use Rattle.dem.proofs.BlockLaws.{message-lawful}
 use Rattle.dem.proofs.RecordingLaws.{accepted-exactly}
 use Rattle.dem.proofs.AnswerLaws.{whole-accepted}
 use Rattle.message.specs.declared.Message.{Message}
-use Rattle.message.specs.declared.Message.the-variants as M
-use Rattle.message.specs.declared.Update.{Update}
 use Rattle.message.specs.Places.{valuesTo}
-use Rattle.message.specs.Values.{valuesOf, updateValues}
+use Rattle.message.specs.Values.{valuesOf}
 use Rattle.scene.specs.declared.Scene.{Scene}
 use Rattle.scene.specs.declared.Filled.{Filled}
 use Rattle.scene.specs.Views.{sceneOf, filledBy}
@@ -41,7 +31,7 @@ use Rattle.cobbrundle.specs.declared.MessageReply.{MessageReply}
 use Rattle.cobbrundle.specs.declared.WriteReply.{WriteReply}
 use Rattle.cobbrundle.specs.declared.RecordingReply.{RecordingReply}
 use Rattle.cobbrundle.proofs.Messages.{FoundAt, found-reply-at, found-front, found-length}
-use Rattle.cobbrundle.proofs.Writing.{done, done-reply, allowed-numbered}
+use Rattle.cobbrundle.proofs.Writing.{done, done-reply}
 
 -- ---- written back
 
@@ -85,31 +75,6 @@ module _ (scene : Scene) (s : List ℕ) (at : ℕ) (bytes : Bytes s) (r : Messag
       (ap (λ (j : ℕ). take (next - at) (drop at s) ++ drop j room) size) (omega (arith, long))) in
       (ap count-of x, ap room-of x, ap written-scene x ∙ sym (it .after))
 
-  -- An update changes the record and the mark of its entity, and of no other.
-  module _ (u : Update) (is : m ≡ M.Update u) where
-    abbrev fields : List Value
-    fields = tail (tail (fillUpdate (baselineAt t (u .entity .0)) (u .number) (tail (updateValues u))))
-
-    after-update : sceneOf (r .scene) ≡ apply t (number Kind.update ∷ number (u .entity .0) ∷ fields)
-    after-update =
-        let k : Taken messages GoodMessage t (drop at s) (valuesOf s m) (it .rest) =
-        message-lawful .sound t (drop at s) (valuesOf s m) (it .rest) (drop-bytes at s bytes) (it .read) in
-        let n : isUpdate (u .number) ≡ true = allowed-numbered (contextOf t) (placed s) m (k .good .allowed) u is in
-        it .after ∙ ap (λ (x : Message). apply t (fill t (valuesOf s x))) is
-        ∙ ap (apply t) (fill-update t (u .number) (tail (updateValues u)) n)
-
-    pub others-stay : (j : ℕ) → j ≢ u .entity .0
-        → (getD (sceneOf (r .scene) .records) j zeroRecord ≡ getD (t .records) j zeroRecord)
-        × (getD (sceneOf (r .scene) .present) j false ≡ getD (t .present) j false)
-        × (sceneOf (r .scene) .baselines ≡ t .baselines)
-    unfolding apply
-    others-stay j q =
-        let e = after-update in (
-          ap (λ (x : Described). getD (x .records) j zeroRecord) e ∙ getD-set-other (t .records) (u .entity .0) j (numbers fields) zeroRecord q,
-          ap (λ (x : Described). getD (x .present) j false) e ∙ getD-set-other (t .present) (u .entity .0) j true false q,
-          ap (λ (x : Described). x .baselines) e,
-        )
-
 -- ---- whole recordings: demand 2
 
 module _ (s : List ℕ) (bytes : Bytes s) (r : RecordingReply) (read : recordingReplyOf r ≡ whole s) where
@@ -132,7 +97,3 @@ module _ (s : List ℕ) (bytes : Bytes s) (r : RecordingReply) (read : recording
       go (refused n left) f =
           let x : _≡_ {A = Answer Summary} (result a) (refusal n (placeIn s left)) = sym e ∙ ap told-of (read ∙ ap (wholeOf s) f) in
           clash (cc)
-
-  -- It is the only recording as sent that has these bytes, and it is written back to them.
-  pub read-back : (w v : WellFormed s) → (w .recording ≡ v .recording) × (writeRecording (w .recording) ≡ s)
-  read-back w v = (accepted-exactly s bytes .unique w v, w .bytes)

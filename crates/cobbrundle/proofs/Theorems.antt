@@ -24,7 +24,6 @@ use Rattle.message.specs.Values.{valuesOf}
 use Rattle.scene.specs.declared.Scene.{Scene}
 use Rattle.scene.specs.declared.Filled.{Filled}
 use Rattle.scene.specs.Views.{sceneOf, filledBy}
-use Rattle.wire.specs.Cursors.{placed}
 use Rattle.cobbrundle.specs.Replies.{replyOf, countOf, writtenOf, recordingAnswerOf, recordingReplyOf}
 use Rattle.cobbrundle.specs.declared.MessageAnswer.the-variants.{Found}
 use Rattle.cobbrundle.specs.declared.MessageReply.{MessageReply}

@@ -10,12 +10,12 @@ use Rattle.dem.specs.Scene.{fresh}
 use Rattle.dem.specs.Message.{Message as Values}
 use Rattle.dem.specs.Recording.{Block, blockOf, blocks, Reading}
 use Rattle.dem.specs.Answer.{messageAt, outlineAt, trackAt, normalAt, trackNormal}
-use Rattle.wire.specs.Cursors.{placed}
+use Rattle.message.specs.Places.{valuesTo}
 use Rattle.message.specs.declared.Message.{Message}
 use Rattle.message.specs.Values.{valuesOf}
 use Rattle.scene.specs.declared.Scene.{Scene}
 use Rattle.scene.specs.declared.Filled.{Filled}
-use Rattle.scene.specs.Views.{sceneOf, filledValues}
+use Rattle.scene.specs.Views.{sceneOf, filledBy}
 use Rattle.cobbrundle.specs.Replies.{replyOf, outlineOf, blockReplyOf, trackAnswerOf, normalReplyOf, trackWrittenOf}
 use Rattle.cobbrundle.specs.declared.MessageAnswer.{MessageAnswer}
 use Rattle.cobbrundle.specs.declared.MessageAnswer.the-variants as M
@@ -101,7 +101,7 @@ abbrev pub messageSent : List ℕ → MessageCall → Values
 messageSent block c = valuesOf block (c .message)
 
 abbrev pub messageOut : List ℕ → MessageCall → Values
-messageOut block c = filledValues (placed block) (c .filled)
+messageOut block c = filledBy (valuesTo block (c .next)) (c .filled)
 
 -- Of a block.
 abbrev pub blockSent : List ℕ → BlockCall → Block

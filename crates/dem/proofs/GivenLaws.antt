@@ -12,7 +12,7 @@ use Rattle.dem.specs.Layout.{allows}
 use Rattle.dem.specs.Message.{Message, layoutIn}
 use Rattle.dem.specs.Codec.{Codec, after}
 use Rattle.dem.specs.Recording.{messages, Block, blocks, writeMessage, Recording, readRecording, fillRecording, sceneAfter, writeReading}
-use Rattle.dem.specs.Answer.{Answer, result, atEnd, refusal, Reply, reply, Written, written, intoRoom, Item, itemOf, itemAt, normalOf, normalAt}
+use Rattle.dem.specs.Answer.{Answer, result, atEnd, refusal, Reply, reply, Written, intoRoom, Item, itemOf, itemAt, normalOf, normalAt}
 use Rattle.dem.specs.Answer.{outlineOf, outlineAt, blockAt, writeSent, blocksAt, normalBlocksAt, whole, wholeOf, wholeNormal, wholeNormalOf}
 
 -- The scene u, handed back with an answer, is s unless it is a result.

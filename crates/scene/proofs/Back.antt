@@ -6,11 +6,11 @@ use mathlib.Core.List.{List, [], _∷_, map}
 use mathlib.Core.Bool.{Bool}
 use mathlib.Core.Option.{Option, none, some}
 use Prim.Native.Nat.{ℕ}
-use mir.Syntax.{w8, w16, w32}
+use mir.Syntax.{w16, w32}
 use mir.Val.{Val, ofZ, toZ}
 use mir.ValLaws.{toZ-ofZ}
 use denote.Laws.{Is}
-use denote.Struct.Field.{i32-field, array-field}
+use denote.Struct.Field.{i32-field}
 use Rattle.dem.specs.Limits.{entityCount, playerCount, statCount}
 use Rattle.dem.specs.Layout.{numbers}
 use Rattle.dem.specs.Scene.{PlayerLine as Line, Scene as Described}
@@ -18,11 +18,7 @@ use Rattle.wire.proofs.FieldLaws.{Held, Fixed, fixed-by, AsNumbers, truth, stru
 use Rattle.message.specs.declared.Time.{Time}
 use Rattle.message.specs.declared.Time.the-variants.{None, At}
 use Rattle.message.specs.Values.{timeOf}
-use Rattle.message.proofs.Structs.{byte, short, long, entity, vector, look, pose, motion, arms, supplies}
-use Rattle.scene.specs.declared.Baseline.{Baseline}
-use Rattle.scene.specs.declared.Record.{Record}
-use Rattle.scene.specs.declared.Client.{Client}
-use Rattle.scene.specs.declared.FilledSound.{FilledSound}
+use Rattle.message.proofs.Structs.{byte, long, entity, vector, look, pose, motion, arms, supplies}
 use Rattle.scene.specs.declared.PlayerLine.{PlayerLine}
 use Rattle.scene.specs.declared.Rest.{Rest}
 use Rattle.scene.specs.declared.Scene.{Scene}

@@ -16,8 +16,6 @@ use Rattle.dem.specs.Scene.{Scene as Described, Context, baselineAt}
 use Rattle.dem.specs.Message.{isUpdate, fillUpdate, fillSound, fillClient, fill}
 use Rattle.dem.proofs.ResultLaws.{clash}
 use Rattle.wire.proofs.FieldLaws.{Held, from, from-front}
-use Rattle.message.specs.declared.Message.{Message}
-use Rattle.message.specs.Values.{valuesOf}
 use Rattle.message.specs.Places.{valuesTo}
 use Rattle.message.proofs.InPlace.{placed-values}
 use Rattle.message.proofs.Structs.{entity}

@@ -12,7 +12,7 @@ use mir.ValLaws.{toZ-ofZ}
 use denote.RattleType.{RattleType, Valss}
 use denote.Shadow.{shadow}
 use denote.Laws.{Is}
-use denote.Array.{Array, each}
+use denote.Array.{each}
 use denote.Struct.Struct.{AreAll}
 use denote.Struct.Field.{Field, rows, uint-field, sint-field, bool-field, array-field}
 use denote.Struct.Values.{Values, intos}

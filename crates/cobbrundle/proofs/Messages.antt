@@ -107,7 +107,7 @@ module _ (t : Scene) (s : List ℕ) (at : ℕ) (u : Scene) (i : Item Message Mes
       }
   taken (refused n left) e r h f = no-refusal n (placeIn s left) f
 
-  found-at : got u i ≡ messageAt t s at → FoundAt t s at u i
+  pub found-at : got u i ≡ messageAt t s at → FoundAt t s at u i
   found-at e = go (inRange t) refl (eqb at (length s)) refl (ltb (length s) at) refl
     where
       go : (a : Bool) → inRange t ≡ a → (b : Bool) → eqb at (length s) ≡ b → (c : Bool) → ltb (length s) at ≡ c → FoundAt t s at u i

@@ -2,3 +2,4 @@ pub mod PlaceLaws
 pub mod PieceLaws
 pub mod LineLaws
 pub mod AnswerLaws
+pub mod Determined

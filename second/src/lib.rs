@@ -4,6 +4,7 @@
 //! wrong in other places than the definitions it is run beside.
 
 pub mod bench;
+pub mod cases;
 pub mod compare;
 pub mod fast;
 pub mod gen;

@@ -1,7 +1,7 @@
 //! The commands of the second reader; see README.md.
 
 use second::compare::{self, Mode, Options};
-use second::{bench, fast, gen, mix, read, text};
+use second::{bench, cases, fast, gen, mix, read, text};
 use std::io::{Read, Write};
 use std::path::{Path, PathBuf};
 use std::process::ExitCode;
@@ -10,6 +10,7 @@ const USAGE: &str = "usage:
   second normal < RECORDING         the normal form
   second scene < RECORDING          the scene as text
   second messages < RECORDING       a line a message
+  second cases < LINES              what single calls answer
   second generate SEED INDEX        the INDEX-th generated input of a seed
   second mix NAME SIZE_MB           a big made recording
   second bench [FILE...]            times reading and normalising
@@ -26,6 +27,7 @@ fn main() -> ExitCode {
         ["normal"] => normal(),
         ["scene"] => scene(),
         ["messages"] => messages(),
+        ["cases"] => single_calls(),
         ["generate", seed, index] => generate(seed, index),
         ["mix", name, size] => make_mix(name, size),
         ["bench", ref files @ ..] => time_all(files),
@@ -71,6 +73,10 @@ fn scene() -> Outcome {
 
 fn messages() -> Outcome {
     output(text::messages_text(&read::read_recording(&input()?)).as_bytes())
+}
+
+fn single_calls() -> Outcome {
+    output(cases::answers(&String::from_utf8(input()?)?).as_bytes())
 }
 
 fn generate(seed: &str, index: &str) -> Outcome {

@@ -87,7 +87,7 @@ fn baseline_fields(b: &Baseline) -> String {
     format!("model={} frame={} colormap={} skin={} {axes}", b.model, b.frame, b.colormap, b.skin)
 }
 
-fn record_fields(r: &Record) -> String {
+pub fn record_fields(r: &Record) -> String {
     let head = format!("model={} frame={} colormap={}", r.model, r.frame, r.colormap);
     let axes = axes(&r.origin, &r.angles);
     format!("{head} skin={} effects={} {axes} bit5={}", r.skin, r.effects, u8::from(r.bit5))

@@ -66,6 +66,43 @@ fn scene_and_messages_of_the_marked_recording() {
     assert_eq!(lines[6], "61 2 |");
 }
 
+/// Document 01's P2 as a normal form, in short and in long room; a walker's three
+/// steps; a change of lent lines, of which the scene's own are none.
+#[test]
+fn cases_are_answered_line_by_line() {
+    let script = "s 00 00 16 0500 03000000 0002 00 0000 00 c000 00\nn 00 03 c205000802\nn 00 06 c205000802\n\
+        s 00 00\nw 00 00 01 02\ns 00 00 0b0f0000000200000000\ni 00 00 0900 21\nl 00 10 01 02 feff 0e010300\n\
+        l 00 0f 00 00 0000\n";
+    let scene = "  scene ended=0 limit=0 view=0 pause=0 statics=0\n";
+    let record = "  record 5 model=3 frame=0 colormap=0 skin=0 effects=0 x=520 angle0=0 y=0 angle1=0 z=192 angle2=0 bit5=0\n";
+    let ended = scene.replace("ended=0", "ended=1");
+    let two = scene.replace("limit=0", "limit=2");
+    let rest = " 9/33".repeat(14);
+    let answers = [
+        format!("  all messages 1 refusal 0 place 16\n{scene}"),
+        format!("  refused 12 at 4: eeeeee\n{scene}"),
+        format!("  written 4 next 5: 82050802eeee\n{scene}{record}"),
+        format!("  all messages 0 refusal 0 place 0\n{scene}"),
+        format!(
+            "  found next 1\n  sent nop\n  filled plain nop\n  walker at 1\n  found next 2\n  sent disconnect\n  \
+             filled plain disconnect\n  walker at 2\n  end\n  walker at 2\n{ended}  all messages 2 refusal 0 place 2\n{ended}"
+        ),
+        format!("  all messages 1 refusal 0 place 10\n{two}"),
+        format!("  lines{}\n", " 9/33".repeat(17)),
+        format!(
+            "  changed\n  found next 4\n  sent frags player=1 frags=3\n  filled plain frags player=1 frags=3\n{two}  \
+             lines 9/33 3/33 -2/33{rest}\n"
+        ),
+        format!("  refused 14 at 0\n  refused 14 at 0\n{two}  lines 9/33 3/33 -2/33{rest}\n"),
+    ];
+    let expected: String = script
+        .lines()
+        .zip(answers)
+        .map(|(line, answer)| format!("{}\n{answer}", line.trim_start()))
+        .collect();
+    assert_eq!(stdout(&run(&["cases"], script.as_bytes())), expected);
+}
+
 #[test]
 fn refused_scene_is_one_line_on_standard_output() {
     let output = run(&["scene"], b"x");

@@ -1,25 +1,8 @@
 // One message read in a scene and written back into room that held EE.
-use crate::fields;
 use cobbrundle::MessageAnswer;
 use cobbrundle::WriteAnswer;
 use message::Message;
 use scene::Scene;
-
-fn refused(n: u8, at: usize) {
-    show::say(b"  refused ");
-    show::number(n as u64);
-    show::say(b" at ");
-    show::number(at as u64);
-    show::say(b"\n");
-}
-
-fn found(m: Message, next: usize) {
-    show::say(b"  next ");
-    show::number(next as u64);
-    show::say(b"\n  sent");
-    fields::show(m);
-    show::say(b"\n");
-}
 
 // A message of more bytes than these is shown in the short form.
 const PLAIN: usize = 24;
@@ -55,7 +38,7 @@ fn write_back(s: Scene, m: Message, text: &[u8]) {
     let answer = w.answer;
     match answer {
         WriteAnswer::Written(n) => show_written(n, &room),
-        WriteAnswer::Refused(n, at) => refused(n, at),
+        WriteAnswer::Refused(n, at) => show::fields::refusal(n, at),
     }
 }
 
@@ -65,12 +48,12 @@ pub fn step(s: Scene, bytes: &[u8]) -> Scene {
     let r = cobbrundle::read_message_at(s, bytes, 0);
     let answer = r.answer;
     match answer {
-        MessageAnswer::Found(m, _, next) => {
-            found(m, next);
+        MessageAnswer::Found(m, f, next) => {
+            show::fields::found(m, f, next, bytes);
             write_back(s, m, bytes);
         }
         MessageAnswer::End => show::say(b"  end\n"),
-        MessageAnswer::Refused(n, p) => refused(n, p),
+        MessageAnswer::Refused(n, p) => show::fields::refusal(n, p),
     }
     r.scene
 }

@@ -59,7 +59,7 @@ fn input(name: &[u8], bytes: &[u8]) {
 }
 
 fn read(track: i16, blocks: usize, messages: usize) {
-    show::track(track);
+    show::short(b" track ", track);
     show::count(b" blocks ", blocks);
     show::count(b" messages ", messages);
 }
@@ -83,7 +83,7 @@ pub fn track(bytes: &[u8]) {
     show::say(b"  track line:");
     match cobbrundle::read_track(bytes) {
         TrackAnswer::Found(track, next) => {
-            show::track(track);
+            show::short(b" track ", track);
             show::count(b" next ", next);
         }
         TrackAnswer::Refused(n, at) => refused(n, at),

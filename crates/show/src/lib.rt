@@ -1,10 +1,12 @@
-// Numbers, bytes and fields on standard output, for the programs whose output is stored. A field is shown by its bits, in as many hex
-// digits as it has.
+// Numbers, bytes, messages and scenes on standard output, for the programs whose output is stored. Numbers are decimal; masks and the bits
+// of floats have as many hex digits as they have places for. Fields have the names that the second reader has for them.
+pub mod fields;
+pub mod scenes;
+
 use message::Look;
 use message::Pose;
 use message::Time;
 use message::Vector;
-use wire::Text;
 
 // What stands where no byte is.
 const NO_BYTE: u64 = 256;
@@ -22,15 +24,9 @@ pub fn count(name: &[u8], v: usize) {
     number(v as u64);
 }
 
-pub fn track(v: i16) {
-    let bits = pieces::unsigned16(v) as u64;
-    if v < 0 {
-        say(b" track -");
-        number(65536 - bits);
-    } else {
-        say(b" track ");
-        number(bits);
-    }
+pub fn refused(refusal: u8, place: usize) {
+    count(b"refused ", refusal as usize);
+    count(b" at ", place);
 }
 
 fn hex(v: u64, width: usize) {
@@ -84,20 +80,50 @@ pub fn changes(b: &[u8], count: usize) {
 
 pub fn byte(name: &[u8], v: u8) {
     say(name);
-    hex(wide(v), 2);
+    number(wide(v));
+}
+
+// A number below zero by its bits, of which there are so many.
+fn minus(bits: u64, all: u64) {
+    if bits < all {
+        say(b"-");
+        number(all - bits);
+    }
 }
 
 pub fn char(name: &[u8], v: i8) {
-    byte(name, pieces::unsigned8(v));
+    say(name);
+    let bits = wide(pieces::unsigned8(v));
+    if v < 0 {
+        minus(bits, 256);
+    } else {
+        number(bits);
+    }
 }
 
 pub fn word(name: &[u8], v: u16) {
     say(name);
-    hex(v as u64, 4);
+    number(v as u64);
 }
 
 pub fn short(name: &[u8], v: i16) {
-    word(name, pieces::unsigned16(v));
+    say(name);
+    let bits = pieces::unsigned16(v) as u64;
+    if v < 0 {
+        minus(bits, 65536);
+    } else {
+        number(bits);
+    }
+}
+
+pub fn long(name: &[u8], v: i32) {
+    say(name);
+    let bits = pieces::unsigned32(v) as u64;
+    if v < 0 {
+        minus(bits, 4294967296);
+    } else {
+        number(bits);
+    }
 }
 
 pub fn bits(name: &[u8], v: u32) {
@@ -105,8 +131,9 @@ pub fn bits(name: &[u8], v: u32) {
     hex(v as u64, 8);
 }
 
-pub fn long(name: &[u8], v: i32) {
-    bits(name, pieces::unsigned32(v));
+pub fn mask(name: &[u8], v: u64, width: usize) {
+    say(name);
+    hex(v, width);
 }
 
 pub fn time(t: Time) {
@@ -122,12 +149,6 @@ pub fn flag(name: &[u8], set: bool) {
     } else {
         byte(name, 0);
     }
-}
-
-// A string's place and length.
-pub fn text(name: &[u8], t: Text) {
-    count(name, t.start);
-    count(b"+", t.len);
 }
 
 pub fn vector(v: Vector) {

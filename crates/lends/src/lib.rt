@@ -1,0 +1,37 @@
+// Player lines that are kept in a local and lent as one list.
+ghost use Prim.Native.Nat.{_≤_};
+use cobbrundle::MessageReply;
+use lines::LineChange;
+use lines::LinesAnswer;
+use scene::PlayerLine;
+use scene::Scene;
+
+// Shows what a change and a message were answered, and the scene that the message left.
+fn told(bytes: &[u8], change: LinesAnswer, reply: MessageReply) {
+    match change {
+        LinesAnswer::Changed => show::say(b"  changed\n"),
+        LinesAnswer::Refused(n, at) => show::fields::refusal(n, at),
+    }
+    let answer = reply.answer;
+    let after = reply.scene;
+    show::fields::answer(answer, bytes);
+    show::scenes::show(after);
+}
+
+// Lends the first lines twice: for a change, and for the message at a place of some bytes, in a scene. The lines behind both.
+pub fn lend(
+    lines: [PlayerLine; 17],
+    count: usize,
+    change: LineChange,
+    scene: Scene,
+    bytes: &[u8],
+    at: usize,
+) -> [PlayerLine; 17]
+    requires { ⌜ count ≤ 17 ⌝ }
+{
+    let mut own = lines;
+    let answer = lines::change_lines(&mut own[..count], change);
+    let reply = lines::read_message_lent(scene, bytes, at, &mut own[..count]);
+    told(bytes, answer, reply);
+    own
+}

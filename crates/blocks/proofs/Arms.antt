@@ -242,12 +242,12 @@ module _ (s : List ℕ) (at : ℕ) (l : at < length s) (b : List Baseline) (e : 
             let w : u .entity .0 ≡ r .entity = cc in
             subst (λ (k : ℕ). k < entityCount) (sym w) (r .known)
 
-        pub update-moved : (r : Record)
+        entity-moved : (r : Record)
             → number Kind.update ∷ number (u .entity .0) ∷ recordValues r
             ≡ fillUpdate (baselineNumbers (getD b (u .entity .0) noBaseline)) (u .number) (tail (updateValues u))
             → Moved s (held b e p x) at (held b (set e (u .entity .0) r) (set p (u .entity .0) true) x) (c .at) (updateForm (u .entity .0) r)
         unfolding sceneWith
-        update-moved r f =
+        entity-moved r f =
             let t = held b e p x in
             let i = u .entity .0 in
             let seen = seen-at baselineNumbers b i noBaseline in
@@ -256,6 +256,14 @@ module _ (s : List ℕ) (at : ℕ) (l : at < length s) (b : List Baseline) (e : 
             ∙ update-applied t u r (baselineNumbers (getD b i noBaseline)) (leb-true 128 (u .number) numbered) seen f))
             _ (update-normal i r (updateValues u)
             (fill-update t (u .number) (tail (updateValues u)) numbered ∙ ap (λ (y : List ℕ). fillUpdate y (u .number) (tail (updateValues u))) (sym seen) ∙ sym f))
+
+        -- Where code names the entity's number otherwise.
+        pub update-moved : (i : ℕ) → i ≡ u .entity .0 → (r : Record)
+            → number Kind.update ∷ number (u .entity .0) ∷ recordValues r ≡ fillUpdate (baselineNumbers (getD b i noBaseline)) (u .number) (tail (updateValues u))
+            → Moved s (held b e p x) at (held b (set e i r) (set p i true) x) (c .at) (updateForm i r)
+        update-moved i same r f =
+            subst (λ (j : ℕ). Moved s (held b e p x) at (held b (set e j r) (set p j true) x) (c .at) (updateForm j r)) (sym same)
+            (entity-moved r (f ∙ ap (λ (j : ℕ). fillUpdate (baselineNumbers (getD b j noBaseline)) (u .number) (tail (updateValues u))) same))
 
     -- An update by its values as sent, its record being filled in already.
     module _ (n : ℕ) (en : n ≡ getD s at 0) (large : 128 ≤ n) (high i : ℕ) (sent : List Value) (to : ℕ) (r : Record)

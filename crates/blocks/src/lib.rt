@@ -211,7 +211,8 @@ pub fn write_blocks(
                     break;
                 }
                 let q = quick::update_head(d, at + 1, k);
-                let i = q.entity;
+                let entity = q.entity;
+                let i = message::index_of(entity);
                 let mask = q.mask;
                 if 449 <= i {
                     break;
@@ -243,7 +244,8 @@ pub fn write_blocks(
                     break;
                 }
                 let q = quick::update_head(d, at + 1, k);
-                let i = q.entity;
+                let entity = q.entity;
+                let i = message::index_of(entity);
                 let mask = q.mask;
                 if 449 <= i {
                     break;
@@ -276,7 +278,8 @@ pub fn write_blocks(
                     // One that is to be put anew is loaded again, where all its bytes are there.
                     if on & (at < stop) {
                         let q = quick::update_head(d, at + 1, k);
-                        let i = q.entity;
+                        let entity = q.entity;
+                        let i = message::index_of(entity);
                         let mask = q.mask;
                         if (i < 449) & (mask < 32768) {
                             let b = baselines[i];
@@ -292,7 +295,7 @@ pub fn write_blocks(
                                     kept,
                                     at,
                                     to,
-                                    i,
+                                    entity,
                                     record,
                                     b,
                                 );
@@ -314,7 +317,7 @@ pub fn write_blocks(
                     }
                     let update = u.update;
                     let entity = update.entity;
-                    let i = entity.0 as usize;
+                    let i = message::index_of(entity);
                     let b = baselines[i];
                     let record = scene::fill_update(update, b);
                     let to = next.at;
@@ -326,7 +329,7 @@ pub fn write_blocks(
                         kept,
                         at,
                         to,
-                        i,
+                        entity,
                         record,
                         b,
                     );
@@ -406,7 +409,7 @@ pub fn write_blocks(
                     let to = next.at;
                     match message {
                         Message::Baseline(entity, look, pose) => {
-                            let i = entity.0 as usize;
+                            let i = message::index_of(entity);
                             let b = Baseline { look, pose };
                             baselines[i] = b;
                         }

@@ -179,10 +179,9 @@ fn masked_form(scene: Scene, message: Message, form: &mut [u8]) -> usize
         Message::Clientdata(d) => normal::put_client(true, form, 0, scene::fill_client(d)),
         Message::Update(u) => {
             let entity = u.entity;
-            let i = entity.0 as usize;
-            let b = effects::baseline_of(scene, i);
+            let b = effects::baseline_of(scene, entity);
             let record = scene::fill_update(u, b);
-            normal::put_update(true, form, 0, i, record, b)
+            normal::put_update(true, form, 0, entity, record, b)
         }
         _ => {
             let nothing = [0u8; 1];

@@ -20,9 +20,10 @@ use scene::Filled;
 use scene::Scene;
 
 // The baseline of an entity, all zero past the last.
-pub fn baseline_of(s: Scene, i: usize) -> Baseline
-    ensures { λ r. ⌜ baselineNumbers r ≡ baselineAt (sceneOf s) i ⌝ }
+pub fn baseline_of(s: Scene, entity: Entity) -> Baseline
+    ensures { λ r. ⌜ baselineNumbers r ≡ baselineAt (sceneOf s) (entity .0) ⌝ }
 {
+    let i = message::index_of(entity);
     if i < 449 {
         let b = s.baselines[i];
         return b;
@@ -47,7 +48,7 @@ pub fn baseline_of(s: Scene, i: usize) -> Baseline
 fn with_baseline(s: Scene, entity: Entity, look: Look, pose: Pose) -> Scene
     ensures { λ r. ⌜ sceneOf r ≡ apply (sceneOf s) (number Kind.baseline ∷ number (entity .0) ∷ (lookValues look ++ poseValues pose)) ⌝ }
 {
-    let i = entity.0 as usize;
+    let i = message::index_of(entity);
     let mut y = s;
     if i < 449 {
         let b = Baseline { look, pose };
@@ -60,8 +61,8 @@ fn with_update(s: Scene, u: Update) -> Scene
     ensures { λ r. ⌜ (128 ≤ u .number → sceneOf r ≡ apply (sceneOf s) (fill (sceneOf s) (updateValues u))) ⌝ }
 {
     let entity = u.entity;
-    let i = entity.0 as usize;
-    let b = baseline_of(s, i);
+    let i = message::index_of(entity);
+    let b = baseline_of(s, entity);
     let record = scene::fill_update(u, b);
     let mut y = s;
     if i < 449 {
@@ -106,12 +107,11 @@ pub fn filled_in(s: Scene, m: Message) -> Filled
     match m {
         Message::Update(u) => {
             let entity = u.entity;
-            let i = entity.0 as usize;
-            let b = baseline_of(s, i);
+            let b = baseline_of(s, entity);
             scene::fill_message(m, b)
         }
         _ => {
-            let b = baseline_of(s, 0);
+            let b = baseline_of(s, Entity(0));
             scene::fill_message(m, b)
         }
     }

@@ -111,13 +111,12 @@ update-bytes x b e false fs = whole b e false fs x
 -- ---- as code puts them
 
 pub head-put : (n h e : ℕ) (a b c d f : List ℕ) (p q r s t : ℕ) → Put a b p q (leWrite 1 n) → Put b c q r (cond (not (eqb h 0)) (leWrite 1 h) [])
-    → Put c d r s (leWrite 1 (e % 256)) → Put d f s t (cond (leb 256 e) (leWrite 1 (e / 256 % 256)) []) → Put a f p t (headBytes n h e)
+    → Put c d r s (leWrite 1 (e % 256)) → Put d f s t (cond (leb 256 e) (leWrite 1 (e / 256)) []) → Put a f p t (headBytes n h e)
 head-put n h e a b c d f p q r s t g0 g1 g2 g3 =
-    let wide = cond (leb 256 e) (leWrite 1 (e / 256 % 256)) [] in
+    let wide = cond (leb 256 e) (leWrite 1 (e / 256)) [] in
     let high = cond (not (eqb h 0)) (leWrite 1 h) [] in
     let low : e % 256 % 256 ≡ e % 256 = omega arith in
-    let top : e / 256 % 256 % 256 ≡ e / 256 % 256 = omega arith in
-    let same : leWrite 1 n ++ (high ++ (leWrite 1 (e % 256) ++ wide)) ≡ headBytes n h e = λ i. leWrite 1 n ++ (cond (set-test h i) (leWrite 1 h) [] ++ ((low i ∷ []) ++ cond (leb 256 e) (top i ∷ []) [])) in
+    let same : leWrite 1 n ++ (high ++ (leWrite 1 (e % 256) ++ wide)) ≡ headBytes n h e = λ i. leWrite 1 n ++ (cond (set-test h i) (leWrite 1 h) [] ++ ((low i ∷ []) ++ wide)) in
     put-same a f p t (leWrite 1 n ++ (high ++ (leWrite 1 (e % 256) ++ wide))) (headBytes n h e) same
     (put-then a b f p q t (leWrite 1 n) (high ++ (leWrite 1 (e % 256) ++ wide)) g0
     (put-then b c f q r t high (leWrite 1 (e % 256) ++ wide) g1 (put-then c d f r s t (leWrite 1 (e % 256)) wide g2 g3)))

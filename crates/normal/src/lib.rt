@@ -18,6 +18,7 @@ ghost use Rattle.normal.specs.Sent.{sentBytes, defaults, bitsOf, bitsVal
 ghost use Rattle.normal.specs.Client.{motionBits, motionBitsValues, fourSlots, clientFields, countsBytes, suppliesBytes};
 ghost use Rattle.normal.specs.Normal.{vectorBytes, placeBytes, otherBytes};
 use message::Arms;
+use message::Entity;
 use message::Look;
 use message::Message;
 use message::Motion;
@@ -121,8 +122,8 @@ fn four_bits(a: bool, b: bool, c: bool, d: bool) -> u8
     (a as u8) + (b as u8) * 2 + (c as u8) * 4 + (d as u8) * 8
 }
 
-fn high_byte(entity: usize, l: Look, effects: u8, p: PoseBits, l0: Look, p0: PoseBits) -> u8
-    ensures { λ r. ⌜ ((bit5 : Bool) → r ≡ highByte (updateBits entity bit5 l effects p l0 p0)) ⌝ }
+fn high_byte(entity: Entity, l: Look, effects: u8, p: PoseBits, l0: Look, p0: PoseBits) -> u8
+    ensures { λ r. ⌜ ((bit5 : Bool) → r ≡ highByte (updateBits (entity .0) bit5 l effects p l0 p0)) ⌝ }
 {
     let a = four_bits(
         p.angle0 != p0.angle0,
@@ -130,7 +131,7 @@ fn high_byte(entity: usize, l: Look, effects: u8, p: PoseBits, l0: Look, p0: Pos
         l.model != l0.model,
         l.colormap != l0.colormap,
     );
-    let b = four_bits(l.skin != l0.skin, effects != 0, 256 <= entity, false);
+    let b = four_bits(l.skin != l0.skin, effects != 0, 256 <= entity.0, false);
     a + b * 16
 }
 
@@ -144,15 +145,15 @@ fn low_byte(high: u8, bit5: bool, l: Look, p: PoseBits, l0: Look, p0: PoseBits) 
 
 // ---- an update
 
-fn put_head(out: &mut [u8], at: usize, n: u8, high: u8, entity: usize) -> usize
+fn put_head(out: &mut [u8], at: usize, n: u8, high: u8, entity: Entity) -> usize
     requires { ⌜ at + 4 ≤ length (now out) ⌝ }
-    ensures { λ q. ⌜ Put (now (out .entry)) (now (out .exit)) at q (headBytes n high entity) ⌝ }
+    ensures { λ q. ⌜ Put (now (out .entry)) (now (out .exit)) at q (headBytes n high (entity .0)) ⌝ }
     ensures near { λ q. ⌜ q ≤ at + 4 ⌝ }
 {
     let a = put_byte_if(out, at, true, n);
     let b = put_byte_if(out, a, high != 0, high);
-    let c = put_byte_if(out, b, true, (entity % 256) as u8);
-    put_byte_if(out, c, 256 <= entity, (entity / 256 % 256) as u8)
+    let c = put_byte_if(out, b, true, (entity.0 % 256) as u8);
+    put_byte_if(out, c, 256 <= entity.0, (entity.0 / 256) as u8)
 }
 
 fn put_fields(
@@ -177,12 +178,12 @@ pub fn put_update(
     on: bool,
     out: &mut [u8],
     at: usize,
-    entity: usize,
+    entity: Entity,
     r: Record,
     b: Baseline,
 ) -> usize
     requires { ⌜ at + 24 ≤ length (now out) ⌝ }
-    ensures { λ q. ⌜ ((x : Context) → Put (now (out .entry)) (now (out .exit)) at q (cond on (print (layout x) (sendUpdate (baselineNumbers b) (number entity ∷ recordValues r))) [])) ⌝ }
+    ensures { λ q. ⌜ ((x : Context) → Put (now (out .entry)) (now (out .exit)) at q (cond on (print (layout x) (sendUpdate (baselineNumbers b) (number (entity .0) ∷ recordValues r))) [])) ⌝ }
 {
     if !on {
         return at;
@@ -438,12 +439,12 @@ pub fn put_update_behind(
     kept: usize,
     at: usize,
     to: usize,
-    entity: usize,
+    entity: Entity,
     r: Record,
     b: Baseline,
 ) -> Scratch
     requires { ⌜ (kept ≤ at) × (at ≤ length (now s)) × (size + (at - kept) + 24 ≤ length (now out)) ⌝ }
-    ensures { λ q. ⌜ ((x : Context) → Behind anew (now (out .entry)) (now (out .exit)) size kept (q .size) (q .kept) to (take (at - kept) (drop kept (now (s .entry))) ++ print (layout x) (sendUpdate (baselineNumbers b) (number entity ∷ recordValues r)))) ⌝ }
+    ensures { λ q. ⌜ ((x : Context) → Behind anew (now (out .entry)) (now (out .exit)) size kept (q .size) (q .kept) to (take (at - kept) (drop kept (now (s .entry))) ++ print (layout x) (sendUpdate (baselineNumbers b) (number (entity .0) ∷ recordValues r)))) ⌝ }
 {
     if !anew {
         return Scratch { size, kept };

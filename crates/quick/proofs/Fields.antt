@@ -125,7 +125,7 @@ module _ (d : List ℕ) (at low h q m lo hi next : ℕ) (hn n : Bool) where
   pub head-made : q + 2 ≤ length d → low < 256 → lo < 256 → h ≡ highAt d at low → q ≡ behind at (bit low highBit) 1 → m ≡ h * 256 + low → lo ≡ getD d q 0
       → hi ≡ fieldOr d (q + 1) (bit m wideBit) 1 0 → next ≡ behind (q + 1) (bit m wideBit) 1
       → hn ≡ needlessOr false d at (bit low highBit) 1 0 → n ≡ needlessOr hn d (q + 1) (bit m wideBit) 1 0
-      → _≡_ {A = UpdateHead} (record { mask = m; entity = hi * 256 + lo; next = next; needless = n }) (headAt d at low)
+      → _≡_ {A = UpdateHead} (record { mask = m; entity = record { 0 = hi * 256 + lo }; next = next; needless = n }) (headAt d at low)
   unfolding headAt needlessHead
   head-made l sl slo eh eq em elo ehi en ehn ef =
       let mask : m ≡ maskAt d at low = em ∙ ap (λ (x : ℕ). x * 256 + low) eh in
@@ -139,7 +139,7 @@ module _ (d : List ℕ) (at low h q m lo hi next : ℕ) (hn n : Bool) where
       let flag : n ≡ needlessHead m (hi * 256 + lo) =
       ef ∙ byte-needless hn d (q + 1) (bit m wideBit) hi (hi * 256 + lo) ehi (λ z. below hi lo slo)
       ∙ ap (λ (b : Bool). b || bit m wideBit && ltb (hi * 256 + lo) 256) first in
-      λ i. record { mask = mask i; entity = entity i; next = place i; needless = (flag ∙ ap₂ needlessHead mask entity) i }
+      λ i. record { mask = mask i; entity = record { 0 = entity i }; next = place i; needless = (flag ∙ ap₂ needlessHead mask entity) i }
 
 -- ---- slots in turn
 

@@ -90,17 +90,17 @@ high-good high n h =
     let e : bit high 7 ≡ false = bit-div high 7 ∙ ap isSet z in
     rw e
 
--- What the block holds at a place behind the number n: an update that ends where the fields did, and fills in to their record; and where
--- nothing was sent needlessly, it is its own normal form.
-pub record QuickUpdate (d : List ℕ) (end at n : ℕ) (b : Baseline) (h : UpdateHead) (f : RecordAt) : Type 0 where
+-- What the block holds at a place behind the number n: an update of entity i that ends where the fields did, and fills in to their record;
+-- and where nothing was sent needlessly, it is its own normal form.
+pub record QuickUpdate (d : List ℕ) (end at n : ℕ) (b : Baseline) (h : UpdateHead) (i : ℕ) (f : RecordAt) : Type 0 where
   pub high : ℕ
   pub masked : h .mask ≡ high * 256 + n
   pub sent : List Value
-  pub parsed : parse (updateLayout n) (drop at (take end d)) ≡ found (number high ∷ number (h .entity) ∷ sent) (drop (f .next) (take end d))
-  pub filled : fillUpdate (baselineNumbers b) n (number high ∷ number (h .entity) ∷ sent)
-      ≡ number Kind.update ∷ number (h .entity) ∷ recordValues (f .record)
+  pub parsed : parse (updateLayout n) (drop at (take end d)) ≡ found (number high ∷ number i ∷ sent) (drop (f .next) (take end d))
+  pub filled : fillUpdate (baselineNumbers b) n (number high ∷ number i ∷ sent)
+      ≡ number Kind.update ∷ number i ∷ recordValues (f .record)
   pub kept : f .needless ≡ false → h .needless ≡ false
-      → sendUpdate (baselineNumbers b) (number (h .entity) ∷ recordValues (f .record)) ≡ number n ∷ number high ∷ number (h .entity) ∷ sent
+      → sendUpdate (baselineNumbers b) (number i ∷ recordValues (f .record)) ≡ number n ∷ number high ∷ number i ∷ sent
 
 module _ (d : List ℕ) (end at n : ℕ) (b : Baseline) (inside : end ≤ length d) (small : n < 256) where
   slots : List Slot
@@ -175,17 +175,17 @@ module _ (d : List ℕ) (end at n : ℕ) (b : Baseline) (inside : end ≤ length
       update-kept d (baselineNumbers b) n high entity next small update low needed lacking
       (narrow (omega (arith, passed-up slots (bit mask) next)) bytes) every
 
-  pub quick-update : (h : UpdateHead) (f : RecordAt) → h ≡ headAt d at n
+  pub quick-update : (h : UpdateHead) (i : ℕ) (f : RecordAt) → h ≡ headAt d at n → i ≡ h .entity .0
       → recordValues (f .record) ≡ filledAt d (baselineNumbers b) (h .mask) (h .next)
       → f .next ≡ passed (updateSlots (baselineNumbers b)) (bit (h .mask)) (h .next)
-      → h .mask < 32768 → h .entity < entityCount → f .next ≤ end
+      → h .mask < 32768 → i < entityCount → f .next ≤ end
       → f .needless ≡ needlessIn d (updateSlots (baselineNumbers b)) (bit (h .mask)) (h .next) false → 128 ≤ n
       → ((i : ℕ) → getD d i 0 < 256)
-      → QuickUpdate d end at n b h f
+      → QuickUpdate d end at n b h i f
   unfolding headAt slots mask entity next place high
-  quick-update h f eh ev en low known l eo update bytes =
+  quick-update h i f eh ei ev en low known l eo update bytes =
       let em : h .mask ≡ mask = ap (λ (h : UpdateHead). h .mask) eh in
-      let ee : h .entity ≡ entity = ap (λ (h : UpdateHead). h .entity) eh in
+      let ee : i ≡ entity = ei ∙ ap (λ (h : UpdateHead). h .entity .0) eh in
       let ex : h .next ≡ next = ap (λ (h : UpdateHead). h .next) eh in
       let ef : f .next ≡ passed slots (bit mask) next = en ∙ ap₂ (λ (m x : ℕ). passed slots (bit m) x) em ex in
       record {
@@ -196,8 +196,8 @@ module _ (d : List ℕ) (end at n : ℕ) (b : Baseline) (inside : end ≤ length
             head-parsed (rw em at low) (rw ee at known) (rw ef at l)
             ∙ ap₂ (λ (e x : ℕ). found (number high ∷ number e ∷ sent d slots (bit mask) next) (drop x (take end d))) (sym ee) (sym ef);
         filled =
-            head-filled (h .entity)
-            ∙ ap (λ (vs : List Value). number Kind.update ∷ number (h .entity) ∷ vs)
+            head-filled i
+            ∙ ap (λ (vs : List Value). number Kind.update ∷ number i ∷ vs)
             (ap₂ (λ (m x : ℕ). filledAt d (baselineNumbers b) m x) (sym em) (sym ex) ∙ sym ev);
         kept =
             λ none needed.

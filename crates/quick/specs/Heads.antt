@@ -30,4 +30,4 @@ headAt d at low =
     let w = entityWidth (maskAt d at low) in
     let q = behind at (bit low highBit) 1 in
     let entity = leRead (take w (drop q d)) in
-    record { mask = maskAt d at low; entity = entity; next = q + w; needless = needlessHead (maskAt d at low) entity }
+    record { mask = maskAt d at low; entity = record { 0 = entity }; next = q + w; needless = needlessHead (maskAt d at low) entity }

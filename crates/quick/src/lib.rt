@@ -20,6 +20,7 @@ ghost use Rattle.scene.specs.Views.{baselineNumbers, recordValues, clientValues
 ghost use Rattle.quick.specs.Spread.{fieldOr, behind, needlessOr, spread, passed, needlessIn, lookSlots, lookOf, poseSlots, filledAt, suppliesSlots, clientFields, clientIn, clientAt};
 ghost use Rattle.quick.specs.Heads.{headAt};
 use message::Arms;
+use message::Entity;
 use message::Look;
 use message::Motion;
 use message::Pose;
@@ -370,7 +371,7 @@ fn needed_pose(d: &[u8], at: usize, mask: u16, o: Pose, needless: bool) -> PoseO
 // byte of the entity that is 0.
 pub struct UpdateHead {
     pub mask: u16,
-    pub entity: usize,
+    pub entity: Entity,
     pub next: usize,
     pub needless: bool,
 }
@@ -386,9 +387,11 @@ pub fn update_head(d: &[u8], at: usize, low: u8) -> UpdateHead
     let q = h.next;
     let lo = d[q];
     let hi = byte_or(d, q + 1, mask, 14, 0, h.needless);
+    let number = wide(hi.value) * 256 + wide(lo);
+    let entity = Entity(number);
     UpdateHead {
         mask,
-        entity: (wide(hi.value) * 256 + wide(lo)) as usize,
+        entity,
         next: hi.next,
         needless: hi.needless,
     }

@@ -323,6 +323,18 @@ module _ {o : Opened} (p : Place o) where
               (moved-short (body o) (body-bytes o) (scene p) (p .at) t to form m on) anew w e filled size kept b;
         }
 
+  -- An update is put anew, whose entity's number code names otherwise.
+  module _ (t : Scene) (to i n : ℕ) (r : Record) (same : i ≡ n) where
+    abbrev updateBytes : ℕ → List ℕ
+    updateBytes e = print (layoutIn (scene p)) (sendUpdate (baselineNumbers (getD (p .baselines) i noBaseline)) (number e ∷ recordValues r))
+
+    update-step : Moved (body o) (scene p) (p .at) t to (updateBytes i) → (anew : Bool) → (anew ≡ true → begun (blockOf o) .args .on ≡ true)
+        → (begun (blockOf o) .args .on ≡ true → anew ≡ false → updateBytes i ≡ take (to - p .at) (drop (p .at) (body o))) → (filled : List ℕ) (size kept : ℕ)
+        → Behind anew (p .filled) filled (p .size) (p .kept) size kept to (take (p .at - p .kept) (drop (p .kept) (body o)) ++ updateBytes n) → Step p t to filled size kept
+    update-step m anew w e filled size kept b =
+        behind-step t to (updateBytes i) m anew w e filled size kept
+        (subst (λ (k : ℕ). Behind anew (p .filled) filled (p .size) (p .kept) size kept to (take (p .at - p .kept) (drop (p .kept) (body o)) ++ updateBytes k)) (sym same) b)
+
   module _ (t : Scene) (to : ℕ) (filled : List ℕ) (size kept : ℕ) (s : Step p t to filled size kept) where
     step-less : length (body o) - to < length (body o) - p .at
     step-less = less t to (s .form) (s .moved)
@@ -361,36 +373,37 @@ module _ {o : Opened} (p : Place o) (e : List Record) (i to : ℕ) (form : List 
 
 -- ---- an update that is read at once
 
--- An update of which all bytes were loaded, and that ends inside the block.
-pub record Loaded {o : Opened} (p : Place o) (n : ℕ) (h : UpdateHead) (f : RecordAt) : Type 0 where
+-- An update of which all bytes were loaded, and that ends inside the block; i is its entity's place in the tables.
+pub record Loaded {o : Opened} (p : Place o) (n : ℕ) (h : UpdateHead) (i : ℕ) (f : RecordAt) : Type 0 where
   there : n ≡ getD (body o) (p .at) 0
   large : 128 ≤ n
   head : h ≡ headAt (input (blockOf o)) (p .at + 1) n
   low : h .mask < 32768
-  known : h .entity < entityCount
-  fields : recordValues (f .record) ≡ filledAt (input (blockOf o)) (baselineNumbers (getD (p .baselines) (h .entity) noBaseline)) (h .mask) (h .next)
-  next : f .next ≡ passed (updateSlots (baselineNumbers (getD (p .baselines) (h .entity) noBaseline))) (bit (h .mask)) (h .next)
-  flag : f .needless ≡ needlessIn (input (blockOf o)) (updateSlots (baselineNumbers (getD (p .baselines) (h .entity) noBaseline))) (bit (h .mask)) (h .next) false
+  index : i ≡ h .entity .0
+  known : i < entityCount
+  fields : recordValues (f .record) ≡ filledAt (input (blockOf o)) (baselineNumbers (getD (p .baselines) i noBaseline)) (h .mask) (h .next)
+  next : f .next ≡ passed (updateSlots (baselineNumbers (getD (p .baselines) i noBaseline))) (bit (h .mask)) (h .next)
+  flag : f .needless ≡ needlessIn (input (blockOf o)) (updateSlots (baselineNumbers (getD (p .baselines) i noBaseline))) (bit (h .mask)) (h .next) false
   ends : f .next ≤ end o
 
-module _ {o : Opened} (p : Place o) (n : ℕ) (h : UpdateHead) (f : RecordAt) (l : Loaded p n h f) where
-  at-once : QuickUpdate (input (blockOf o)) (end o) (p .at + 1) n (getD (p .baselines) (h .entity) noBaseline) h f
+module _ {o : Opened} (p : Place o) (n : ℕ) (h : UpdateHead) (i : ℕ) (f : RecordAt) (l : Loaded p n h i f) where
+  at-once : QuickUpdate (input (blockOf o)) (end o) (p .at + 1) n (getD (p .baselines) i noBaseline) h i f
   at-once =
       let d = input (blockOf o) in
       let small : n < 256 = omega (arith, l .there, getD-take (end o) d (p .at) 0 (omega (arith, p .inside, body-long o)), byte-fits (blockOf o) (p .at)) in
-      quick-update d (end o) (p .at + 1) n (getD (p .baselines) (h .entity) noBaseline) (within o) small h f (l .head) (l .fields) (l .next) (l .low) (l .known) (l .ends)
+      quick-update d (end o) (p .at + 1) n (getD (p .baselines) i noBaseline) (within o) small h i f (l .head) (l .index) (l .fields) (l .next) (l .low) (l .known) (l .ends)
       (l .flag) (l .large) (byte-fits (blockOf o))
 
   abbrev updated : ℕ → Scene
-  updated m = held (p .baselines) (set (p .records) (h .entity) (f .record)) (marked (p .since) (set (p .marks) (h .entity) m)) (p .rest)
+  updated m = held (p .baselines) (set (p .records) i (f .record)) (marked (p .since) (set (p .marks) i m)) (p .rest)
 
   abbrev form : List ℕ
-  form = print (layoutIn (scene p)) (sendUpdate (baselineNumbers (getD (p .baselines) (h .entity) noBaseline)) (number (h .entity) ∷ recordValues (f .record)))
+  form = print (layoutIn (scene p)) (sendUpdate (baselineNumbers (getD (p .baselines) i noBaseline)) (number i ∷ recordValues (f .record)))
 
-  at-quick : Moved (body o) (scene p) (p .at) (held (p .baselines) (set (p .records) (h .entity) (f .record)) (set (present p) (h .entity) true) (p .rest)) (f .next) form
+  at-quick : Moved (body o) (scene p) (p .at) (held (p .baselines) (set (p .records) i (f .record)) (set (present p) i true) (p .rest)) (f .next) form
   at-quick =
       quick-moved (body o) (p .at) (p .inside) (p .baselines) (p .records) (present p) (p .rest) (p .going) n (l .there) (l .large)
-      (at-once .high) (h .entity) (at-once .sent) (f .next) (f .record) (at-once .parsed) (at-once .filled)
+      (at-once .high) i (at-once .sent) (f .next) (f .record) (at-once .parsed) (at-once .filled)
 
   -- It is marked by its own place, or the one behind it.
   module _ (m : ℕ) (from : p .at ≤ m) (most : m ≤ f .next) where
@@ -398,30 +411,30 @@ module _ {o : Opened} (p : Place o) (n : ℕ) (h : UpdateHead) (f : RecordAt) (l
     inside-too = omega (arith, l .ends, body-long o)
 
     loaded-moved : Moved (body o) (scene p) (p .at) (updated m) (f .next) form
-    loaded-moved = marked-moved p (set (p .records) (h .entity) (f .record)) (h .entity) (f .next) form at-quick m from most inside-too
+    loaded-moved = marked-moved p (set (p .records) i (f .record)) i (f .next) form at-quick m from most inside-too
 
-    loaded-later : Before (set (p .marks) (h .entity) m) (p .since) (f .next) (length (body o))
-    loaded-later = marked-later p (set (p .records) (h .entity) (f .record)) (h .entity) (f .next) form at-quick m from most inside-too
+    loaded-later : Before (set (p .marks) i m) (p .since) (f .next) (length (body o))
+    loaded-later = marked-later p (set (p .records) i (f .record)) i (f .next) form at-quick m from most inside-too
 
   -- Where nothing was sent needlessly, it stays as it was read.
   loaded-kept : f .needless ≡ false → h .needless ≡ false → form ≡ take (f .next - p .at) (drop (p .at) (body o))
   loaded-kept none needed =
       kept-form (body o) (p .at) (p .inside) (p .baselines) (p .records) (present p) (p .rest) (p .going) n (l .there) (l .large)
-      (at-once .high) (h .entity) (at-once .sent) (f .next) (f .record) (at-once .parsed) (at-once .filled) (body-bytes o) (at-once .kept none needed)
+      (at-once .high) i (at-once .sent) (f .next) (f .record) (at-once .parsed) (at-once .filled) (body-bytes o) (at-once .kept none needed)
 
   loaded-less : p .at < f .next
   loaded-less = omega (arith, less p _ (f .next) _ at-quick)
 
 -- Where it is written only if nothing was sent needlessly, it is one message on.
-module _ {o : Opened} (p : Place o) (n : ℕ) (h : UpdateHead) (f : RecordAt) (l : Loaded p n h f) where
+module _ {o : Opened} (p : Place o) (n : ℕ) (h : UpdateHead) (i : ℕ) (f : RecordAt) (l : Loaded p n h i f) where
   loaded-on : (begun (blockOf o) .args .on ≡ true → (f .needless ≡ false) × (h .needless ≡ false))
       → Along (from-here o) (begun (blockOf o) .args .on) (body o) (end o) (p .count) (scene p) (soFar (begun (blockOf o) .args .on) (p .filled) (p .size) (body o) (p .kept) (p .at)) (p .at)
-      (p .count + 1) (updated p n h f l (f .next)) (p .filled) (f .next) (p .size) (p .kept) (set (p .marks) (h .entity) (f .next)) (p .since)
+      (p .count + 1) (updated p n h i f l (f .next)) (p .filled) (f .next) (p .size) (p .kept) (set (p .marks) i (f .next)) (p .since)
   loaded-on needed =
-      let before = loaded-less p n h f l in
+      let before = loaded-less p n h i f l in
       step-on p _ (f .next) _ _ _
-      (kept-step p _ (f .next) _ (loaded-moved p n h f l (f .next) (omega (arith, before)) (omega arith)) (λ on. let z = needed on in loaded-kept p n h f l (z .0) (z .1)))
-      _ _ (loaded-later p n h f l (f .next) (omega (arith, before)) (omega arith))
+      (kept-step p _ (f .next) _ (loaded-moved p n h i f l (f .next) (omega (arith, before)) (omega arith)) (λ on. let z = needed on in loaded-kept p n h i f l (z .0) (z .1)))
+      _ _ (loaded-later p n h i f l (f .next) (omega (arith, before)) (omega arith))
 
 -- ---- the loops over updates: of those that are written, then of those that are not
 
@@ -508,10 +521,13 @@ abbrev FoundWritten : Type 0
 FoundWritten = tie.After-record Inv-loop3 μ-loop3 Inv-loop4 μ-loop4 Inv-loop2 μ-loop2 Inv-loop μ-loop
 
 abbrev writing : FoundWritten → ToWrite
-writing c = c .before .before .before .before .before .before .before .before .before .before .before
+writing c = c .before .before .before .before .before .before .before .before .before .before .before .before .before
 
 abbrev headWritten : FoundWritten → UpdateHead
-headWritten c = c .before .before .before .before .before .before .before .before .update-head .result
+headWritten c = c .before .before .before .before .before .before .before .before .before .before .update-head .result
+
+abbrev indexWritten : FoundWritten → ℕ
+indexWritten c = c .before .before .before .before .before .before .before .before .index-of .result
 
 abbrev fieldsWritten : FoundWritten → RecordAt
 fieldsWritten c = c .before .before .before .needed-fields .result
@@ -519,14 +535,15 @@ fieldsWritten c = c .before .before .before .needed-fields .result
 abbrev kindWritten : FoundWritten → ℕ
 kindWritten c = kind (writing c .before) (writing c .before .loop3 .at)
 
-found-written : (c : FoundWritten) → Loaded (writePlace (writing c)) (kindWritten c) (headWritten c) (fieldsWritten c)
+found-written : (c : FoundWritten) → Loaded (writePlace (writing c)) (kindWritten c) (headWritten c) (indexWritten c) (fieldsWritten c)
 found-written c =
     let f = c .before .before .before .needed-fields in
     let z = c .before .before .if8 .left in
     record {
       there = kind-there (writing c .before) (writing c .before .loop3 .at) (to-write (writing c) .0);
-      large = c .before .before .before .before .before .before .before .before .before .if4 .left;
-      head = c .before .before .before .before .before .before .before .before .update-head .ensures .0;
+      large = c .before .before .before .before .before .before .before .before .before .before .before .if4 .left;
+      head = c .before .before .before .before .before .before .before .before .before .before .update-head .ensures .0;
+      index = c .before .before .before .before .before .before .before .before .index-of .ensures;
       low = c .before .before .before .before .before .before .if6 .left;
       known = c .before .before .before .before .before .before .before .if5 .left;
       fields = f .ensures .1 .0 z;
@@ -561,10 +578,13 @@ abbrev FoundRead : Type 0
 FoundRead = tie.After-record2 Inv-loop3 μ-loop3 Inv-loop4 μ-loop4 Inv-loop2 μ-loop2 Inv-loop μ-loop
 
 abbrev reading : FoundRead → ToRead
-reading c = c .before .before .before .before .before .before .before .before .before
+reading c = c .before .before .before .before .before .before .before .before .before .before .before
 
 abbrev headRead : FoundRead → UpdateHead
-headRead c = c .before .before .before .before .before .before .update-head2 .result
+headRead c = c .before .before .before .before .before .before .before .before .update-head2 .result
+
+abbrev indexRead : FoundRead → ℕ
+indexRead c = c .before .before .before .before .before .before .index-of2 .result
 
 abbrev fieldsRead : FoundRead → RecordAt
 fieldsRead c = c .before .before .update-fields .result
@@ -572,13 +592,14 @@ fieldsRead c = c .before .before .update-fields .result
 abbrev kindRead : FoundRead → ℕ
 kindRead c = kind (behindWritten (reading c)) (reading c .before .loop4 .at)
 
-found-read : (c : FoundRead) → Loaded (readPlace (reading c)) (kindRead c) (headRead c) (fieldsRead c)
+found-read : (c : FoundRead) → Loaded (readPlace (reading c)) (kindRead c) (headRead c) (indexRead c) (fieldsRead c)
 found-read c =
     let f = c .before .before .update-fields in
     record {
       there = kind-there (behindWritten (reading c)) (reading c .before .loop4 .at) (to-read (reading c) .1);
-      large = c .before .before .before .before .before .before .before .if10 .left;
-      head = c .before .before .before .before .before .before .update-head2 .ensures .0;
+      large = c .before .before .before .before .before .before .before .before .before .if10 .left;
+      head = c .before .before .before .before .before .before .before .before .update-head2 .ensures .0;
+      index = c .before .before .before .before .before .before .index-of2 .ensures;
       low = c .before .before .before .before .if12 .left;
       known = c .before .before .before .before .before .if11 .left;
       fields = f .ensures .0;
@@ -647,8 +668,8 @@ update-read c =
     (c .read-update .result .update) (c .read-update .result .cursor) (c .read-update .ensures)
 
 -- The entity of a baseline, and of an update, is known.
-baseline-index : (c : tie.After-message Inv-loop3 μ-loop3 Inv-loop4 μ-loop4 Inv-loop2 μ-loop2 Inv-loop μ-loop) → c .message .given .0 .0 .0 < 449
-baseline-index c =
+baseline-entity : (c : tie.After-message Inv-loop3 μ-loop3 Inv-loop4 μ-loop4 Inv-loop2 μ-loop2 Inv-loop μ-loop) → c .message .given .0 .0 .0 < 449
+baseline-entity c =
     let r = c .before .before .before .before in
     let o = inBlock (r .before .before .before .before .before .before .before) in
     let p = message (r .before .before .before .before .before .before .before) in
@@ -656,13 +677,19 @@ baseline-index c =
     (r .before .context3 .ensures _ _ _) (r .read-message .result .message) (r .read-message .result .cursor) (r .read-message .ensures) (c .before .before .if21 .left) _ _ _
     (c .message .given .1)
 
-update-index : (c : tie.Else25 Inv-loop3 μ-loop3 Inv-loop4 μ-loop4 Inv-loop2 μ-loop2 Inv-loop μ-loop) → c .before .before .read-update .result .update .entity .0 < 449
-update-index c =
+baseline-index : (c : tie.After-index-of3 Inv-loop3 μ-loop3 Inv-loop4 μ-loop4 Inv-loop2 μ-loop2 Inv-loop μ-loop) → c .index-of3 .result < 449
+baseline-index c = omega (arith, c .index-of3 .ensures, baseline-entity (c .before .before))
+
+update-entity : (c : tie.Else25 Inv-loop3 μ-loop3 Inv-loop4 μ-loop4 Inv-loop2 μ-loop2 Inv-loop μ-loop) → c .before .before .read-update .result .update .entity .0 < 449
+update-entity c =
     let r = c .before .before in
     let o = inBlock (r .before .before .before .before .before) in
     let p = message (r .before .before .before .before .before) in
     update-known (body o) (p .at) (p .inside) (p .baselines) (p .records) (present p) (p .rest) (p .going) (body-bytes o) _ refl (r .before .before .if18 .left)
     (r .read-update .result .update) (r .read-update .result .cursor) (r .read-update .ensures) (c .if25 .left)
+
+update-index : (c : tie.After-index-of5 Inv-loop3 μ-loop3 Inv-loop4 μ-loop4 Inv-loop2 μ-loop2 Inv-loop μ-loop) → c .index-of5 .result < 449
+update-index c = omega (arith, c .index-of5 .ensures, update-entity (c .before .before .before))
 
 -- A message that is passed.
 abbrev Passing : Type 0
@@ -701,14 +728,17 @@ pass-step c =
 abbrev Again : Type 0
 Again = tie.After-record3 Inv-loop3 μ-loop3 Inv-loop4 μ-loop4 Inv-loop2 μ-loop2 Inv-loop μ-loop
 
-abbrev placeOf : (c : Again) → Place (inBlock (c .before .before .before .before .before .before .before .before .before .before))
-placeOf c = message (c .before .before .before .before .before .before .before .before .before .before)
+abbrev placeOf : (c : Again) → Place (inBlock (c .before .before .before .before .before .before .before .before .before .before .before .before))
+placeOf c = message (c .before .before .before .before .before .before .before .before .before .before .before .before)
 
 abbrev kindOf : Again → ℕ
-kindOf c = getD (body (inBlock (c .before .before .before .before .before .before .before .before .before .before))) (placeOf c .at) 0
+kindOf c = getD (body (inBlock (c .before .before .before .before .before .before .before .before .before .before .before .before))) (placeOf c .at) 0
 
 abbrev headAgain : Again → UpdateHead
-headAgain c = c .before .before .before .before .before .update-head3 .result
+headAgain c = c .before .before .before .before .before .before .before .update-head3 .result
+
+abbrev indexAgain : Again → ℕ
+indexAgain c = c .before .before .before .before .before .index-of4 .result
 
 abbrev fieldsAgain : Again → RecordAt
 fieldsAgain c = c .before .before .update-fields2 .result
@@ -724,18 +754,19 @@ to-load c =
     (t .0, before-stop (length (input (blockOf o))) (end o) _ (message m .at) (m .before .before .before .before .before .before .before .before .quick-until .ensures) (ltb-true _ _ (t .1)) .1)
 
 -- Its entity and its mask were tested.
-tested : (c : tie.Then23 Inv-loop3 μ-loop3 Inv-loop4 μ-loop4 Inv-loop2 μ-loop2 Inv-loop μ-loop) → (c .before .update-head3 .result .entity < 449) × (c .before .update-head3 .result .mask < 32768)
+tested : (c : tie.Then23 Inv-loop3 μ-loop3 Inv-loop4 μ-loop4 Inv-loop2 μ-loop2 Inv-loop μ-loop) → (c .before .index-of4 .result < 449) × (c .before .before .before .update-head3 .result .mask < 32768)
 tested c =
     let t = and-true _ _ (c .if23 .taken) in
     (ltb-true _ _ (t .0), ltb-true _ _ (t .1))
 
-again : (c : Again) → Loaded (placeOf c) (kindOf c) (headAgain c) (fieldsAgain c)
+again : (c : Again) → Loaded (placeOf c) (kindOf c) (headAgain c) (indexAgain c) (fieldsAgain c)
 again c =
     let f = c .before .before .update-fields2 in
     record {
       there = refl;
-      large = c .before .before .before .before .before .before .before .if18 .left;
-      head = c .before .before .before .before .before .update-head3 .ensures .0;
+      large = c .before .before .before .before .before .before .before .before .before .if18 .left;
+      head = c .before .before .before .before .before .before .before .update-head3 .ensures .0;
+      index = c .before .before .before .before .before .index-of4 .ensures;
       low = tested (c .before .before .before .before) .1;
       known = tested (c .before .before .before .before) .0;
       fields = f .ensures .0;
@@ -745,7 +776,7 @@ again c =
     }
 
 moves-again : (c : Again) → placeOf c .at < fieldsAgain c .next
-moves-again c = loaded-less (placeOf c) (kindOf c) (headAgain c) (fieldsAgain c) (again c)
+moves-again c = loaded-less (placeOf c) (kindOf c) (headAgain c) (indexAgain c) (fieldsAgain c) (again c)
 
 abbrev Anew : Type 0
 Anew = tie.After-body6 Inv-loop3 μ-loop3 Inv-loop4 μ-loop4 Inv-loop2 μ-loop2 Inv-loop μ-loop
@@ -753,13 +784,14 @@ Anew = tie.After-body6 Inv-loop3 μ-loop3 Inv-loop4 μ-loop4 Inv-loop2 μ-loop2 
 again-step : (c : Anew)
     → let r = c .before .before .before in
     let w = c .before .put-update-behind in
-    Step (placeOf r) (updated (placeOf r) (kindOf r) (headAgain r) (fieldsAgain r) (again r) (placeOf r .at)) (fieldsAgain r .next) (w .last .1 .0) (w .result .size) (w .result .kept)
+    Step (placeOf r) (updated (placeOf r) (kindOf r) (headAgain r) (indexAgain r) (fieldsAgain r) (again r) (placeOf r .at)) (fieldsAgain r .next) (w .last .1 .0) (w .result .size) (w .result .kept)
 again-step c =
     let r = c .before .before .before in
     let p = placeOf r in
     let w = c .before .put-update-behind in
-    behind-step p _ (fieldsAgain r .next) _ (loaded-moved p (kindOf r) (headAgain r) (fieldsAgain r) (again r) (p .at) (omega arith) (omega (arith, moves-again r)))
-    true (λ e. to-load (r .before .before .before .before .before .before) .0) (λ on e. clash (cc)) _ _ _ (w .ensures (contextOf (scene p)))
+    update-step p _ (fieldsAgain r .next) (indexAgain r) _ (fieldsAgain r .record) (again r .index)
+    (loaded-moved p (kindOf r) (headAgain r) (indexAgain r) (fieldsAgain r) (again r) (p .at) (omega arith) (omega (arith, moves-again r)))
+    true (λ e. to-load (r .before .before .before .before .before .before .before .before) .0) (λ on e. clash (cc)) _ _ _ (w .ensures (contextOf (scene p)))
 
 -- ---- where the arms meet
 
@@ -840,7 +872,9 @@ came c =
     _ (λ e. and-true _ _ e .0) (λ on e. kept-client s (k .at) l (k .baselines) (k .records) (present k) (k .rest) g h (w .1 .result .client) (w .1 .result .cursor) (client-again r (and-false _ _ on e)) (w .3 .left)) _ _ _ (w .7 .ensures x)))
     (⊎-elim
     (λ w.
-    stays c (set (k .baselines) (w .9 .given .0 .0 .0) (record { look = w .9 .given .0 .1 .0; pose = w .9 .given .0 .1 .1 .0 })) (k .records) (k .rest) (k .filled) (w .5 .result .cursor .at) (k .size) (k .kept) (w .12) (w .13) (w .14) (w .15) (w .16) (w .17) (w .18) (w .19) (w .20)
+    let b : Baseline = record { look = w .9 .given .0 .1 .0; pose = w .9 .given .0 .1 .1 .0 } in
+    let known = w .12 ∙ ap (λ (i : ℕ). set (k .baselines) i b) (w .11 .ensures) in
+    stays c (set (k .baselines) (w .9 .given .0 .0 .0) b) (k .records) (k .rest) (k .filled) (w .5 .result .cursor .at) (k .size) (k .kept) known (w .13) (w .14) (w .15) (w .16) (w .17) (w .18) (w .19) (w .20)
     (kept-step k _ (w .5 .result .cursor .at) _
     (baseline-moved s (k .at) l (k .baselines) (k .records) (present k) (k .rest) g h _ (w .4 .ensures _ _ _) (w .5 .result .message) (w .5 .result .cursor)
     (w .5 .ensures) (w .7 .left) (λ z. w .0 .rest .0 .0 .1 (sym z)) (λ z. w .0 .rest .1 (sym z)) (w .1 .taken) _ _ _ (w .9 .given .1)) (λ on. refl)))
@@ -857,12 +891,12 @@ came c =
     (rest-moved s (k .at) l (k .baselines) (k .records) (present k) (k .rest) g h _ (w .4 .ensures _ _ _) (w .5 .result .message) (w .5 .result .cursor)
     (w .5 .ensures) (w .7 .left) (λ z. w .0 .rest .0 .0 .1 (sym z)) (λ z. w .0 .rest .1 (sym z)) (w .1 .taken) neither (w .8 .keys3) tt tt (λ z. w .0 .rest .0 .1 (sym z)) (w .9 .result) (w .9 .ensures)) (λ on. refl)))
     (λ w.
-    let i = w .3 .result .update .entity .0 in
+    let i = w .8 .result in
     let to = w .3 .result .cursor .at in
-    let moved = update-moved s (k .at) l (k .baselines) (k .records) (present k) (k .rest) g h _ refl (w .1 .left) (w .3 .result .update) (w .3 .result .cursor) (w .3 .ensures) (w .5 .left) (w .10 .result) (w .10 .ensures) in
+    let moved = update-moved s (k .at) l (k .baselines) (k .records) (present k) (k .rest) g h _ refl (w .1 .left) (w .3 .result .update) (w .3 .result .cursor) (w .3 .ensures) (w .5 .left) i (w .8 .ensures) (w .10 .result) (w .10 .ensures) in
     let here : k .at ≤ to = omega (arith, less k _ to _ moved) in
     arrived c (k .baselines) (set (k .records) i (w .10 .result)) (set (k .marks) i (k .at)) (k .since) (k .rest) _ to (w .12 .result .size) (w .12 .result .kept) (w .14) (w .15) (w .16) (w .17) (w .18) (w .19) (w .20) (w .21) (w .22)
-    (behind-step k _ to _ (marked-moved k (set (k .records) i (w .10 .result)) i to _ moved (k .at) (omega arith) here (omega (arith, l))) _ (λ e. e) (λ on e. let z : true ≡ false = sym on ∙ e in clash (cc)) _ _ _ (w .12 .ensures x))
+    (update-step k _ to i _ (w .10 .result) (w .8 .ensures) (marked-moved k (set (k .records) i (w .10 .result)) i to _ moved (k .at) (omega arith) here (omega (arith, l))) _ (λ e. e) (λ on e. let z : true ≡ false = sym on ∙ e in clash (cc)) _ _ _ (w .12 .ensures x))
     (marked-later k (set (k .records) i (w .10 .result)) i to _ moved (k .at) (omega arith) here (omega (arith, l)))))))))
     (c .match .came)
 
@@ -1099,6 +1133,9 @@ add-update-head c = place-fits (writePlace (c .before .before))
 update-head-requires : tie.Need-update-head-requires Inv-loop3 μ-loop3 Inv-loop4 μ-loop4 Inv-loop2 μ-loop2 Inv-loop μ-loop
 update-head-requires c κs = omega (arith, to-write (c .before .before))
 
+index-of-requires : tie.Need-index-of-requires Inv-loop3 μ-loop3 Inv-loop4 μ-loop4 Inv-loop2 μ-loop2 Inv-loop μ-loop
+index-of-requires c κs = search needs
+
 mul-b : tie.Need-mul-b Inv-loop3 μ-loop3 Inv-loop4 μ-loop4 Inv-loop2 μ-loop2 Inv-loop μ-loop
 mul-b c = omega (arith, c .before .before .if5 .left)
 
@@ -1106,7 +1143,7 @@ array-copy-out-b : tie.Need-array-copy-out-b Inv-loop3 μ-loop3 Inv-loop4 μ-loo
 array-copy-out-b c = c .before .before .if5 .left
 
 needed-fields-requires : tie.Need-needed-fields-requires Inv-loop3 μ-loop3 Inv-loop4 μ-loop4 Inv-loop2 μ-loop2 Inv-loop μ-loop
-needed-fields-requires c κs = omega (arith, c .before .before .before .before .update-head .ensures .1, to-write (c .before .before .before .before .before .before .before))
+needed-fields-requires c κs = omega (arith, c .before .before .before .before .before .before .update-head .ensures .1, to-write (c .before .before .before .before .before .before .before .before .before))
 
 mul-records : tie.Need-mul-records Inv-loop3 μ-loop3 Inv-loop4 μ-loop4 Inv-loop2 μ-loop2 Inv-loop μ-loop
 mul-records c = omega (arith, found-written c .known)
@@ -1124,14 +1161,14 @@ add-messages : tie.Need-add-messages Inv-loop3 μ-loop3 Inv-loop4 μ-loop4 Inv-l
 add-messages c = counts (writePlace (writing c))
 
 loop3-less : tie.Need-loop3-less Inv-loop3 μ-loop3 Inv-loop4 μ-loop4 Inv-loop2 μ-loop2 Inv-loop μ-loop
-loop3-less c = less (writePlace (writing c)) _ (fieldsWritten c .next) _ (at-quick (writePlace (writing c)) (kindWritten c) (headWritten c) (fieldsWritten c) (found-written c))
+loop3-less c = less (writePlace (writing c)) _ (fieldsWritten c .next) _ (at-quick (writePlace (writing c)) (kindWritten c) (headWritten c) (indexWritten c) (fieldsWritten c) (found-written c))
 
 loop3-again : tie.Need-loop3-again Inv-loop3 μ-loop3 Inv-loop4 μ-loop4 Inv-loop2 μ-loop2 Inv-loop μ-loop
 loop3-again c =
     let i = writing c .before .loop3 .inv in
     let p = writePlace (writing c) in
-    let q = loaded-on p (kindWritten c) (headWritten c) (fieldsWritten c) (found-written c) (λ on. (c .before .before .if8 .left, c .before .before .before .before .before .if7 .left)) in
-    ((q .0, q .1, q .2, q .3, i .0 .4 ∙ q .4, q .5, q .6), omega (arith, i .1, loaded-less p (kindWritten c) (headWritten c) (fieldsWritten c) (found-written c)))
+    let q = loaded-on p (kindWritten c) (headWritten c) (indexWritten c) (fieldsWritten c) (found-written c) (λ on. (c .before .before .if8 .left, c .before .before .before .before .before .if7 .left)) in
+    ((q .0, q .1, q .2, q .3, i .0 .4 ∙ q .4, q .5, q .6), omega (arith, i .1, loaded-less p (kindWritten c) (headWritten c) (indexWritten c) (fieldsWritten c) (found-written c)))
 
 loop4-holds : tie.Need-loop4-holds Inv-loop3 μ-loop3 Inv-loop4 μ-loop4 Inv-loop2 μ-loop2 Inv-loop μ-loop
 loop4-holds c =
@@ -1147,6 +1184,9 @@ add-update-head-2 c = place-fits (readPlace (c .before .before))
 update-head-requires-2 : tie.Need-update-head-requires-2 Inv-loop3 μ-loop3 Inv-loop4 μ-loop4 Inv-loop2 μ-loop2 Inv-loop μ-loop
 update-head-requires-2 c κs = omega (arith, to-read (c .before .before) .2)
 
+index-of-requires-2 : tie.Need-index-of-requires-2 Inv-loop3 μ-loop3 Inv-loop4 μ-loop4 Inv-loop2 μ-loop2 Inv-loop μ-loop
+index-of-requires-2 c κs = search needs
+
 mul-b-2 : tie.Need-mul-b-2 Inv-loop3 μ-loop3 Inv-loop4 μ-loop4 Inv-loop2 μ-loop2 Inv-loop μ-loop
 mul-b-2 c = omega (arith, c .before .if11 .left)
 
@@ -1154,7 +1194,7 @@ array-copy-out-b-2 : tie.Need-array-copy-out-b-2 Inv-loop3 μ-loop3 Inv-loop4 μ
 array-copy-out-b-2 c = c .before .if11 .left
 
 update-fields-requires : tie.Need-update-fields-requires Inv-loop3 μ-loop3 Inv-loop4 μ-loop4 Inv-loop2 μ-loop2 Inv-loop μ-loop
-update-fields-requires c κs = omega (arith, c .before .before .before .update-head2 .ensures .1, to-read (c .before .before .before .before .before .before) .2)
+update-fields-requires c κs = omega (arith, c .before .before .before .before .before .update-head2 .ensures .1, to-read (c .before .before .before .before .before .before .before .before) .2)
 
 mul-records-2 : tie.Need-mul-records-2 Inv-loop3 μ-loop3 Inv-loop4 μ-loop4 Inv-loop2 μ-loop2 Inv-loop μ-loop
 mul-records-2 c = omega (arith, found-read c .known)
@@ -1172,15 +1212,15 @@ add-messages-2 : tie.Need-add-messages-2 Inv-loop3 μ-loop3 Inv-loop4 μ-loop4 I
 add-messages-2 c = counts (readPlace (reading c))
 
 loop4-less : tie.Need-loop4-less Inv-loop3 μ-loop3 Inv-loop4 μ-loop4 Inv-loop2 μ-loop2 Inv-loop μ-loop
-loop4-less c = less (readPlace (reading c)) _ (fieldsRead c .next) _ (at-quick (readPlace (reading c)) (kindRead c) (headRead c) (fieldsRead c) (found-read c))
+loop4-less c = less (readPlace (reading c)) _ (fieldsRead c .next) _ (at-quick (readPlace (reading c)) (kindRead c) (headRead c) (indexRead c) (fieldsRead c) (found-read c))
 
 loop4-again : tie.Need-loop4-again Inv-loop3 μ-loop3 Inv-loop4 μ-loop4 Inv-loop2 μ-loop2 Inv-loop μ-loop
 loop4-again c =
     let i = reading c .before .loop4 .inv in
     let p = readPlace (reading c) in
     let off = to-read (reading c) .0 in
-    let q = loaded-on p (kindRead c) (headRead c) (fieldsRead c) (found-read c) (λ on. absurd (true≢false (sym on ∙ off))) in
-    ((q .0, q .1, q .2, q .3, i .0 .4 ∙ q .4, q .5, q .6), omega (arith, i .1, loaded-less p (kindRead c) (headRead c) (fieldsRead c) (found-read c)))
+    let q = loaded-on p (kindRead c) (headRead c) (indexRead c) (fieldsRead c) (found-read c) (λ on. absurd (true≢false (sym on ∙ off))) in
+    ((q .0, q .1, q .2, q .3, i .0 .4 ∙ q .4, q .5, q .6), omega (arith, i .1, loaded-less p (kindRead c) (headRead c) (indexRead c) (fieldsRead c) (found-read c)))
 
 loop2-less : tie.Need-loop2-less Inv-loop3 μ-loop3 Inv-loop4 μ-loop4 Inv-loop2 μ-loop2 Inv-loop μ-loop
 loop2-less c = omega (arith, c .if14 .taken, c .before .before .before .before .before .before .loop2-test .taken)
@@ -1191,8 +1231,8 @@ loop2-again c = reached-read (c .before .before)
 shared-slice-read-k-3 : tie.Need-shared-slice-read-k-3 Inv-loop3 μ-loop3 Inv-loop4 μ-loop4 Inv-loop2 μ-loop2 Inv-loop μ-loop
 shared-slice-read-k-3 c = search needs
 
-add-t106 : tie.Need-add-t106 Inv-loop3 μ-loop3 Inv-loop4 μ-loop4 Inv-loop2 μ-loop2 Inv-loop μ-loop
-add-t106 c = place-fits (message (c .before))
+add-t109 : tie.Need-add-t109 Inv-loop3 μ-loop3 Inv-loop4 μ-loop4 Inv-loop2 μ-loop2 Inv-loop μ-loop
+add-t109 c = place-fits (message (c .before))
 
 sound-at-requires : tie.Need-sound-at-requires Inv-loop3 μ-loop3 Inv-loop4 μ-loop4 Inv-loop2 μ-loop2 Inv-loop μ-loop
 sound-at-requires c κs = search needs
@@ -1308,14 +1348,14 @@ returns-6 c =
 enum-known-message : tie.Need-enum-known-message Inv-loop3 μ-loop3 Inv-loop4 μ-loop4 Inv-loop2 μ-loop2 Inv-loop μ-loop
 enum-known-message c = search needs
 
-cast-i : tie.Need-cast-i Inv-loop3 μ-loop3 Inv-loop4 μ-loop4 Inv-loop2 μ-loop2 Inv-loop μ-loop
-cast-i c = search needs
+index-of-requires-3 : tie.Need-index-of-requires-3 Inv-loop3 μ-loop3 Inv-loop4 μ-loop4 Inv-loop2 μ-loop2 Inv-loop μ-loop
+index-of-requires-3 c κs = search needs
 
 mul-baselines : tie.Need-mul-baselines Inv-loop3 μ-loop3 Inv-loop4 μ-loop4 Inv-loop2 μ-loop2 Inv-loop μ-loop
-mul-baselines c = omega (arith, baseline-index (c .before .before))
+mul-baselines c = omega (arith, baseline-index c)
 
 array-set-from-baselines : tie.Need-array-set-from-baselines Inv-loop3 μ-loop3 Inv-loop4 μ-loop4 Inv-loop2 μ-loop2 Inv-loop μ-loop
-array-set-from-baselines c = baseline-index (c .before .before)
+array-set-from-baselines c = baseline-index c
 
 enum-known-message-2 : tie.Need-enum-known-message-2 Inv-loop3 μ-loop3 Inv-loop4 μ-loop4 Inv-loop2 μ-loop2 Inv-loop μ-loop
 enum-known-message-2 c = search needs
@@ -1333,6 +1373,9 @@ add-update-head-3 c = place-fits (message (c .before .before .before .before))
 update-head-requires-3 : tie.Need-update-head-requires-3 Inv-loop3 μ-loop3 Inv-loop4 μ-loop4 Inv-loop2 μ-loop2 Inv-loop μ-loop
 update-head-requires-3 c κs = omega (arith, to-load c)
 
+index-of-requires-4 : tie.Need-index-of-requires-4 Inv-loop3 μ-loop3 Inv-loop4 μ-loop4 Inv-loop2 μ-loop2 Inv-loop μ-loop
+index-of-requires-4 c κs = search needs
+
 mul-b-3 : tie.Need-mul-b-3 Inv-loop3 μ-loop3 Inv-loop4 μ-loop4 Inv-loop2 μ-loop2 Inv-loop μ-loop
 mul-b-3 c = omega (arith, tested c)
 
@@ -1340,7 +1383,7 @@ array-copy-out-b-3 : tie.Need-array-copy-out-b-3 Inv-loop3 μ-loop3 Inv-loop4 μ
 array-copy-out-b-3 c = tested c .0
 
 update-fields-requires-2 : tie.Need-update-fields-requires-2 Inv-loop3 μ-loop3 Inv-loop4 μ-loop4 Inv-loop2 μ-loop2 Inv-loop μ-loop
-update-fields-requires-2 c κs = omega (arith, c .before .before .update-head3 .ensures .1, to-load (c .before .before .before))
+update-fields-requires-2 c κs = omega (arith, c .before .before .before .before .update-head3 .ensures .1, to-load (c .before .before .before .before .before))
 
 slice-aggregate-put-update-behind : tie.Need-slice-aggregate-put-update-behind Inv-loop3 μ-loop3 Inv-loop4 μ-loop4 Inv-loop2 μ-loop2 Inv-loop μ-loop
 slice-aggregate-put-update-behind c = sym (placeOf (c .before) .reached .2)
@@ -1364,13 +1407,13 @@ add-messages-4 : tie.Need-add-messages-4 Inv-loop3 μ-loop3 Inv-loop4 μ-loop4 I
 add-messages-4 c = counts (placeOf (c .before .before .before))
 
 loop2-less-3 : tie.Need-loop2-less-3 Inv-loop3 μ-loop3 Inv-loop4 μ-loop4 Inv-loop2 μ-loop2 Inv-loop μ-loop
-loop2-less-3 c = omega (arith, step-less (placeOf (c .before .before .before)) _ (fieldsAgain (c .before .before .before) .next) _ _ _ (again-step c), ahead (c .before .before .before .before .before .before .before .before .before .before .before .before .before))
+loop2-less-3 c = omega (arith, step-less (placeOf (c .before .before .before)) _ (fieldsAgain (c .before .before .before) .next) _ _ _ (again-step c), ahead (c .before .before .before .before .before .before .before .before .before .before .before .before .before .before .before))
 
 loop2-again-3 : tie.Need-loop2-again-3 Inv-loop3 μ-loop3 Inv-loop4 μ-loop4 Inv-loop2 μ-loop2 Inv-loop μ-loop
 loop2-again-3 c =
     let p = placeOf (c .before .before .before) in
     let r = c .before .before .before in
-    let q = step-on p _ (fieldsAgain r .next) _ _ _ (again-step c) _ _ (loaded-later p (kindOf r) (headAgain r) (fieldsAgain r) (again r) (p .at) (omega arith) (omega (arith, moves-again r))) in
+    let q = step-on p _ (fieldsAgain r .next) _ _ _ (again-step c) _ _ (loaded-later p (kindOf r) (headAgain r) (indexAgain r) (fieldsAgain r) (again r) (p .at) (omega arith) (omega (arith, moves-again r))) in
     (q .0, q .1, q .2, q .3, p .reached .4 ∙ q .4, q .5, q .6)
 
 read-update-requires : tie.Need-read-update-requires Inv-loop3 μ-loop3 Inv-loop4 μ-loop4 Inv-loop2 μ-loop2 Inv-loop μ-loop
@@ -1386,14 +1429,14 @@ returns-7 : tie.Need-returns-7 Inv-loop3 μ-loop3 Inv-loop4 μ-loop4 Inv-loop2 �
 returns-7 c =
     refuse-parsed (message (c .before .before .before .before .before .before .before .before)) _ (c .before .before .before .read-update .result .cursor) (update-read (c .before .before .before)) (c .before .if25 .taken) (c .refused-in7 .result) (c .refused-in7 .ensures)
 
-cast-i-2 : tie.Need-cast-i-2 Inv-loop3 μ-loop3 Inv-loop4 μ-loop4 Inv-loop2 μ-loop2 Inv-loop μ-loop
-cast-i-2 c = omega (arith, update-index (c .before .before .before))
+index-of-requires-5 : tie.Need-index-of-requires-5 Inv-loop3 μ-loop3 Inv-loop4 μ-loop4 Inv-loop2 μ-loop2 Inv-loop μ-loop
+index-of-requires-5 c κs = search needs
 
 mul-b-4 : tie.Need-mul-b-4 Inv-loop3 μ-loop3 Inv-loop4 μ-loop4 Inv-loop2 μ-loop2 Inv-loop μ-loop
-mul-b-4 c = omega (arith, update-index (c .before .before .before))
+mul-b-4 c = omega (arith, update-index c)
 
 array-copy-out-b-4 : tie.Need-array-copy-out-b-4 Inv-loop3 μ-loop3 Inv-loop4 μ-loop4 Inv-loop2 μ-loop2 Inv-loop μ-loop
-array-copy-out-b-4 c = update-index (c .before .before .before)
+array-copy-out-b-4 c = update-index c
 
 fill-update-requires : tie.Need-fill-update-requires Inv-loop3 μ-loop3 Inv-loop4 μ-loop4 Inv-loop2 μ-loop2 Inv-loop μ-loop
 fill-update-requires c κs = search needs
@@ -1405,16 +1448,16 @@ put-update-behind-requires-2 : tie.Need-put-update-behind-requires-2 Inv-loop3 �
 put-update-behind-requires-2 c κs = room-for (message (c .before .before .before .before .before .before .before .before .before .before .before .before .before)) _ (omega arith)
 
 mul-records-4 : tie.Need-mul-records-4 Inv-loop3 μ-loop3 Inv-loop4 μ-loop4 Inv-loop2 μ-loop2 Inv-loop μ-loop
-mul-records-4 c = omega (arith, update-index (c .before .before .before .before .before .before .before .before))
+mul-records-4 c = omega (arith, update-index (c .before .before .before .before .before))
 
 array-set-from-records-4 : tie.Need-array-set-from-records-4 Inv-loop3 μ-loop3 Inv-loop4 μ-loop4 Inv-loop2 μ-loop2 Inv-loop μ-loop
-array-set-from-records-4 c = update-index (c .before .before .before .before .before .before .before .before)
+array-set-from-records-4 c = update-index (c .before .before .before .before .before)
 
 mul-marks-4 : tie.Need-mul-marks-4 Inv-loop3 μ-loop3 Inv-loop4 μ-loop4 Inv-loop2 μ-loop2 Inv-loop μ-loop
-mul-marks-4 c = omega (arith, update-index (c .before .before .before .before .before .before .before .before))
+mul-marks-4 c = omega (arith, update-index (c .before .before .before .before .before))
 
 array-write-marks-4 : tie.Need-array-write-marks-4 Inv-loop3 μ-loop3 Inv-loop4 μ-loop4 Inv-loop2 μ-loop2 Inv-loop μ-loop
-array-write-marks-4 c = update-index (c .before .before .before .before .before .before .before .before)
+array-write-marks-4 c = update-index (c .before .before .before .before .before)
 
 add-messages-5 : tie.Need-add-messages-5 Inv-loop3 μ-loop3 Inv-loop4 μ-loop4 Inv-loop2 μ-loop2 Inv-loop μ-loop
 add-messages-5 c = counts (message (c .before .before))
@@ -1558,6 +1601,7 @@ write-blocks-spec =
     shared-slice-read-k
     add-update-head
     update-head-requires
+    index-of-requires
     mul-b
     array-copy-out-b
     needed-fields-requires
@@ -1572,6 +1616,7 @@ write-blocks-spec =
     shared-slice-read-k-2
     add-update-head-2
     update-head-requires-2
+    index-of-requires-2
     mul-b-2
     array-copy-out-b-2
     update-fields-requires
@@ -1585,7 +1630,7 @@ write-blocks-spec =
     loop2-less
     loop2-again
     shared-slice-read-k-3
-    add-t106
+    add-t109
     sound-at-requires
     refused-in-requires-2
     same-length-2
@@ -1621,7 +1666,7 @@ write-blocks-spec =
     same-length-6
     returns-6
     enum-known-message
-    cast-i
+    index-of-requires-3
     mul-baselines
     array-set-from-baselines
     enum-known-message-2
@@ -1629,6 +1674,7 @@ write-blocks-spec =
     apply-rest-requires
     add-update-head-3
     update-head-requires-3
+    index-of-requires-4
     mul-b-3
     array-copy-out-b-3
     update-fields-requires-2
@@ -1645,7 +1691,7 @@ write-blocks-spec =
     refused-in-requires-7
     same-length-7
     returns-7
-    cast-i-2
+    index-of-requires-5
     mul-b-4
     array-copy-out-b-4
     fill-update-requires

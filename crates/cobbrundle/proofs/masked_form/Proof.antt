@@ -21,9 +21,6 @@ put-client-requires c κs = search needs
 enum-known-message-2 : tie.Need-enum-known-message-2
 enum-known-message-2 c = search needs
 
-cast-i : tie.Need-cast-i
-cast-i c = search needs
-
 baseline-of-requires : tie.Need-baseline-of-requires
 baseline-of-requires c κs = search needs
 
@@ -60,9 +57,9 @@ same-length-2 c = search needs
 returns-2 : tie.Need-returns-2
 returns-2 c =
     let q = c .before .before in
-    let a = q .before .before .before .before .before .before .before .before .before .before .args in
+    let a = q .before .before .before .before .before .before .before .before .before .args in
     let t = sceneOf (a .scene) in
-    let m = q .before .before .before .before .before .before .before .message2 in
+    let m = q .before .before .before .before .before .before .message2 in
     let b = q .before .before .before .baseline-of in
     let k = q .before .before .fill-update in
     let put = q .put-update .ensures (contextOf t) in (
@@ -93,7 +90,6 @@ masked-form-spec =
     fill-client-requires
     put-client-requires
     enum-known-message-2
-    cast-i
     baseline-of-requires
     fill-update-requires
     put-update-requires

@@ -13,6 +13,9 @@ use Rattle.scene.proofs.Changes.{seen-at}
 use Rattle.effects.proofs.baseline_of.Statement.{statement}
 use Rattle.effects.proofs.baseline_of.Tie as tie
 
+index-of-requires : tie.Need-index-of-requires
+index-of-requires c κs = search needs
+
 mul-b : tie.Need-mul-b
 mul-b c = search needs
 
@@ -22,20 +25,21 @@ element-copy-out-b c = search needs
 returns : tie.Need-returns
 unfolding sceneWith
 returns c =
-    let a = c .before .before .args in
-    seen-at baselineNumbers (a .t1 .baselines) (a .i)
+    let a = c .before .before .before .args in
+    rw (c .before .before .index-of .ensures)
+    (seen-at baselineNumbers (a .t1 .baselines) (a .entity .0)
     (record {
       look = record { model = 0; frame = 0; colormap = 0; skin = 0 };
       pose = record { x = pos 0; angle0 = pos 0; y = pos 0; angle1 = pos 0; z = pos 0; angle2 = pos 0 };
-    })
+    }))
 
 returns-2 : tie.Need-returns-2
 unfolding sceneWith
 returns-2 c =
-    let a = c .before .args in
-    let n : length (a .t1 .baselines) ≡ 449 = length-of _ (a .t1 .baselines) 449 (c .before .good .0 .1 .1 .0 .1 .0 .1) in
-    sym (List·getD-eq-default (map baselineNumbers (a .t1 .baselines)) zeroBaseline {n = a .i}
-    (omega (arith, length-map (a .t1 .baselines) baselineNumbers)))
+    let a = c .before .before .args in
+    let n : length (a .t1 .baselines) ≡ 449 = length-of _ (a .t1 .baselines) 449 (c .before .before .good .0 .1 .1 .0 .1 .0 .1) in
+    sym (List·getD-eq-default (map baselineNumbers (a .t1 .baselines)) zeroBaseline {n = a .entity .0}
+    (omega (arith, length-map (a .t1 .baselines) baselineNumbers, c .before .index-of .ensures)))
 
 pub baseline-of-spec : {M : Type 1} → statement M
-baseline-of-spec = tie.close (tie.spec mul-b element-copy-out-b returns returns-2)
+baseline-of-spec = tie.close (tie.spec index-of-requires mul-b element-copy-out-b returns returns-2)

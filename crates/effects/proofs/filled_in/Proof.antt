@@ -14,9 +14,6 @@ use Rattle.effects.proofs.filled_in.Tie as tie
 enum-known-m : tie.Need-enum-known-m
 enum-known-m c = search needs
 
-cast-i : tie.Need-cast-i
-cast-i c = search needs
-
 baseline-of-requires : tie.Need-baseline-of-requires
 baseline-of-requires c κs = search needs
 
@@ -31,9 +28,9 @@ fill-message-requires-2 c κs = search needs
 
 returns : tie.Need-returns
 returns c v t e n =
-    let a = c .before .before .before .before .before .before .before .args in
+    let a = c .before .before .before .before .before .before .args in
     let s = sceneOf (a .s) in
-    let g = c .before .before .before .before .before .m .given in
+    let g = c .before .before .before .before .m .given in
     c .fill-message .ensures s v t (sym (ap v (g .1)) ∙ e ∙ ap (valuesBy t) (g .1)) (λ u q. n u (g .1 ∙ q)) (of-update s (Sent.Update (g .0 .0)) (g .0 .0) (c .before .baseline-of .result) refl (c .before .baseline-of .ensures))
     ∙ ap (λ (m : Message). fill s (valuesBy t m)) (sym (g .1))
 
@@ -47,7 +44,6 @@ filled-in-spec =
     tie.close
     (tie.spec
     enum-known-m
-    cast-i
     baseline-of-requires
     fill-message-requires
     baseline-of-requires-2

@@ -13,8 +13,8 @@ use Rattle.scene.proofs.Changes.{set-seen, set-past}
 use Rattle.effects.proofs.with_baseline.Statement.{statement}
 use Rattle.effects.proofs.with_baseline.Tie as tie
 
-cast-i : tie.Need-cast-i
-cast-i c = search needs
+index-of-requires : tie.Need-index-of-requires
+index-of-requires c κs = search needs
 
 mul-b : tie.Need-mul-b
 mul-b c = search needs
@@ -27,8 +27,9 @@ unfolding sceneWith apply
 returns c =
     let a = c .before .before .args in
     let s = sceneOf (a .s) in
-    ap (λ (l : List (List ℕ)). withTables l (s .records) (s .present) s)
-    (set-seen baselineNumbers (a .s .baselines) (a .entity .0) (record { look = a .look; pose = a .pose }) _ refl)
+    rw (c .before .index-of .ensures)
+    (ap (λ (l : List (List ℕ)). withTables l (s .records) (s .present) s)
+    (set-seen baselineNumbers (a .s .baselines) (a .entity .0) (record { look = a .look; pose = a .pose }) _ refl))
 
 returns-2 : tie.Need-returns-2
 unfolding sceneWith apply
@@ -37,7 +38,7 @@ returns-2 c =
     let s = sceneOf (a .s) in
     let n : length (a .s .baselines) ≡ 449 = length-of _ (a .s .baselines) 449 (c .before .before .good .0 .1 .1 .0 .1 .0 .1) in
     ap (λ (l : List (List ℕ)). withTables l (s .records) (s .present) s)
-    (set-past baselineNumbers (a .s .baselines) (a .entity .0) _ (omega arith))
+    (set-past baselineNumbers (a .s .baselines) (a .entity .0) _ (omega (arith, c .before .index-of .ensures)))
 
 pub with-baseline-spec : {M : Type 1} → statement M
-with-baseline-spec = tie.close (tie.spec cast-i mul-b element-set-from-b returns returns-2)
+with-baseline-spec = tie.close (tie.spec index-of-requires mul-b element-set-from-b returns returns-2)

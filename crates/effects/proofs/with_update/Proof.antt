@@ -15,8 +15,8 @@ use Rattle.effects.proofs.Tables.{update-applied}
 use Rattle.effects.proofs.with_update.Statement.{statement}
 use Rattle.effects.proofs.with_update.Tie as tie
 
-cast-i : tie.Need-cast-i
-cast-i c = search needs
+index-of-requires : tie.Need-index-of-requires
+index-of-requires c κs = search needs
 
 baseline-of-requires : tie.Need-baseline-of-requires
 baseline-of-requires c κs = search needs
@@ -41,9 +41,10 @@ returns c h =
     let b = c .before .before .baseline-of in
     let f = c .before .fill-update in
     let i = a .u .entity .0 in
-    ap (λ (l : List (List ℕ)). withTables (s .baselines) l (set (s .present) i true) s)
+    rw (c .before .before .before .index-of .ensures)
+    (ap (λ (l : List (List ℕ)). withTables (s .baselines) l (set (s .present) i true) s)
     (set-seen recordNumbers (a .s .records) i (f .result) _ refl)
-    ∙ update-applied s (a .u) (f .result) (baselineNumbers (b .result)) h (b .ensures) (f .ensures)
+    ∙ update-applied s (a .u) (f .result) (baselineNumbers (b .result)) h (b .ensures) (f .ensures))
 
 returns-2 : tie.Need-returns-2
 unfolding sceneWith
@@ -54,14 +55,15 @@ returns-2 c h =
     let b = c .before .before .baseline-of in
     let f = c .before .fill-update in
     let i = a .u .entity .0 in
+    let e = c .before .before .before .index-of .ensures in
     let n : length (a .s .records) ≡ 449 = length-of _ (a .s .records) 449 (g .0 .1 .1 .1 .0 .1 .0 .1) in
     let m : length (a .s .present) ≡ 449 = length-of _ (a .s .present) 449 (g .0 .1 .1 .1 .1 .0 .1 .0 .1) in
     ap₂ (λ (l : List (List ℕ)) (p : List Bool). withTables (s .baselines) l p s)
-    (set-past recordNumbers (a .s .records) i (recordNumbers (f .result)) (omega arith))
-    (sym (set-out (a .s .present) i true (omega arith)))
+    (set-past recordNumbers (a .s .records) i (recordNumbers (f .result)) (omega (arith, e)))
+    (sym (set-out (a .s .present) i true (omega (arith, e))))
     ∙ update-applied s (a .u) (f .result) (baselineNumbers (b .result)) h (b .ensures) (f .ensures)
 
 pub with-update-spec : {M : Type 1} → statement M
 with-update-spec =
     tie.close
-    (tie.spec cast-i baseline-of-requires fill-update-requires mul-record element-set-from-record element-write-y returns returns-2)
+    (tie.spec index-of-requires baseline-of-requires fill-update-requires mul-record element-set-from-record element-write-y returns returns-2)

@@ -30,15 +30,15 @@ same-length c = search needs
 returns : tie.Need-returns
 returns c =
     let q4 = c .before .before in
-    let q3 = q4 .before .before .before .before in
-    let q2 = q3 .before .before .before .before in
+    let q3 = q4 .before .before .before .before .before .before in
+    let q2 = q3 .before .before .before .before .before in
     let q1 = q2 .before .before .before .before in
     let a = q1 .before .before .before .args in
     let w = q1 .put-byte-if in
     let x = q2 .put-byte-if2 in
     let y = q3 .put-byte-if3 in
     let z = q4 .put-byte-if4 in (
-      head-put (a .n) (a .high) (a .entity) (a .out .now) (w .last .0) (x .last .0) (y .last .0) (z .last .0)
+      head-put (a .n) (a .high) (a .entity .0) (a .out .now) (w .last .0) (x .last .0) (y .last .0) (z .last .0)
           (a .at) (w .result) (x .result) (y .result) (z .result) (w .ensures .0) (x .ensures .0) (y .ensures .0) (z .ensures .0),
       omega arith,
     )

@@ -47,8 +47,8 @@ returns-2 c x =
     let g = q2 .put-fields in
     let eh = h .ensures (a .r .bit5) in
     put-sent (a .out .now) (g .last .0) (a .at) _ (a .on) (g .result) (not-false (a .on) (b1 .before .before .before .before .before .before .if1 .left))
-    (update-put (a .entity) (a .r) (a .b) (p .result) (o .result) (n .result) (h .result) (p .ensures) (o .ensures) eh
-    (n .ensures (a .entity) (a .r .effects) eh) (a .out .now) (f .last .0) (g .last .0) (a .at) (f .result) (g .result) (f .ensures .0) (g .ensures) x)
+    (update-put (a .entity .0) (a .r) (a .b) (p .result) (o .result) (n .result) (h .result) (p .ensures) (o .ensures) eh
+    (n .ensures (a .entity .0) (a .r .effects) eh) (a .out .now) (f .last .0) (g .last .0) (a .at) (f .result) (g .result) (f .ensures .0) (g .ensures) x)
 
 pub put-update-spec : {M : Type 1} → statement M
 put-update-spec =

@@ -41,17 +41,14 @@ byte-or-requires-2 c κs = search needs
 wide-requires-4 : tie.Need-wide-requires-4
 wide-requires-4 c κs = search needs
 
-mul-t10 : tie.Need-mul-t10
-mul-t10 c = search needs
+mul-number : tie.Need-mul-number
+mul-number c = search needs
 
 wide-requires-5 : tie.Need-wide-requires-5
 wide-requires-5 c κs = search needs
 
-add-t15 : tie.Need-add-t15
-add-t15 c = omega (arith, c .before .before .before .shared-slice-known2 .given (c .before .before .before .before .before .before .byte-or .result .next))
-
-cast-t14 : tie.Need-cast-t14
-cast-t14 c = search needs
+add-number : tie.Need-add-number
+add-number c = omega (arith, c .before .before .before .shared-slice-known2 .given (c .before .before .before .before .before .before .byte-or .result .next))
 
 returns : tie.Need-returns
 returns c =
@@ -80,8 +77,7 @@ update-head-spec =
     add-byte-or
     byte-or-requires-2
     wide-requires-4
-    mul-t10
+    mul-number
     wide-requires-5
-    add-t15
-    cast-t14
+    add-number
     returns)

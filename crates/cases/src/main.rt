@@ -10,7 +10,7 @@
 //   w  a block's messages by a walker, in three steps, and then all at once
 //   i  frags (two bytes) and colours of every line that can be lent
 //   l  so many lines lent: for a change, which is the first four bytes (its kind, a player, a value), and for the message at the place behind
-mod blocks;
+mod forms;
 mod hex;
 mod lent;
 mod messages;
@@ -55,10 +55,10 @@ fn ask(s: State, letter: u8, place: usize, bytes: &[u8], room: &mut [u8]) -> Sta
         b'n' => with_scene(s, messages::normal(scene, bytes, place, room)),
         b'p' => with_scene(s, messages::write(scene, bytes, place, room)),
         b'w' => with_scene(s, messages::walk(scene, bytes)),
-        b'k' => with_scene(s, blocks::normal(scene, bytes, place, room)),
-        b'b' => with_scene(s, blocks::normal_all(scene, bytes, place, room)),
-        b'r' => with_scene(s, blocks::recording(bytes, room)),
-        b't' => with_scene(s, blocks::track(scene, bytes, room)),
+        b'k' => with_scene(s, forms::normal(scene, bytes, place, room)),
+        b'b' => with_scene(s, forms::normal_all(scene, bytes, place, room)),
+        b'r' => with_scene(s, forms::recording(bytes, room)),
+        b't' => with_scene(s, forms::track(scene, bytes, room)),
         b'i' => with_lines(s, lent::set(bytes)),
         b'l' => with_lines(s, lent::lend(lines, room.len(), scene, bytes, place)),
         _ => s,

@@ -11,13 +11,12 @@ use lib.Dec.{leb, eqb}
 use lib.ListN.{length, getD, List·getD-eq-default}
 use Rattle.dem.specs.Kind
 use Rattle.dem.specs.Limits.{nameLimit}
-use Rattle.dem.specs.Layout.{Value, number, text, Layout, done, field, split, string, tail}
+use Rattle.format.specs.Layout.{Value, number, text, Layout, done, field, split, string, tail}
 use Rattle.dem.specs.Scene.{Context}
-use Rattle.dem.specs.Message.{Field, byte, short, long, chars, entity, player, statIndex, style, version, limit, channelEntity, timeBits}
-use Rattle.dem.specs.Message.{entityRule, row, rows, vector, isUpdate, kindLayout, updateLayout, soundLayout, clientLayout}
-use Rattle.dem.specs.Message.{temporaryLayout, isPoint, names}
-use Rattle.dem.proofs.ResultLaws.{clash}
-use Rattle.dem.proofs.LayoutLaws.{Allowed}
+use Rattle.dem.specs.Message.{Field, byte, short, long, chars, entity, player, statIndex, style, version, limit, channelEntity, timeBits, entityRule}
+use Rattle.dem.specs.Message.{row, rows, vector, isUpdate, kindLayout, updateLayout, soundLayout, clientLayout, temporaryLayout, isPoint, names}
+use Rattle.format.proofs.ResultLaws.{clash}
+use Rattle.format.proofs.LayoutLaws.{Allowed}
 use Rattle.plain.proofs.Types.{in-run}
 
 -- ---- how many values a row has

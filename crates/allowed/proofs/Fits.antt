@@ -12,7 +12,7 @@ use denote.Laws.{Is}
 use denote.Struct.Declared.{row}
 use denote.Enum.Declared.{variants}
 use denote.Enum.Laws.{Fields, spellss}
-use Rattle.dem.specs.Layout.{Value, number, text}
+use Rattle.format.specs.Layout.{Value, number, text}
 use Rattle.message.specs.Values.{char, vectorValues, lookValues, poseValues, motionValues, armsValues, suppliesValues, particleValues}
 use Rattle.message.specs.declared.Vector.{Vector}
 use Rattle.message.specs.declared.Look.{Look}

@@ -3,8 +3,8 @@
 use mathlib.Core.Path.{_≡_, sym, ap, ap₂, _∙_}
 use mathlib.Core.Bool.{Bool, _&&_, _||_}
 use Prim.Native.Nat.{ℕ, _/_, _%_, _^_}
-use Rattle.dem.specs.Bytes.{isSet, bit}
-use Rattle.dem.proofs.ByteLaws.{bit-div}
+use Rattle.format.specs.Bytes.{isSet, bit}
+use Rattle.format.proofs.ByteLaws.{bit-div}
 
 -- Parts of a test that say the same: both, the second, the first of an alternative.
 pub both : {a b c d : Bool} → a ≡ c → b ≡ d → (a && b) ≡ (c && d)

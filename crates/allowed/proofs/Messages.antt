@@ -15,15 +15,17 @@ use denote.Struct.Declared.{row as rowOf}
 use denote.Enum.Declared.{row as enumOf}
 use denote.Enum.Laws.{owed}
 use Rattle.dem.specs.Kind
-use Rattle.dem.specs.Limits.{entityCount, playerCount, statCount, styleCount, staticLimit, nameLimit, stringLimit, protocol}
-use Rattle.dem.specs.Refusal.{code, reservedBit, wrongNumber, wrongTime, unknownMessage}
-use Rattle.dem.specs.Bytes.{unless, free, bit}
-use Rattle.dem.specs.Layout.{Value, number, text, Layout, done, field, split, string, tail, allows, stringBytes}
-use Rattle.dem.specs.Masked.{Mask, slotLayout, anySet}
-use Rattle.dem.specs.Scene.{Context as Numbers, zeroBaseline, isTime}
+use Rattle.format.specs.Limits.{stringLimit}
+use Rattle.dem.specs.Limits.{entityCount, playerCount, statCount, styleCount, staticLimit, nameLimit, protocol}
+use Rattle.format.specs.Refusal.{code, reservedBit, wrongNumber, wrongTime, unknownMessage}
+use Rattle.format.specs.Bytes.{unless, free, bit}
+use Rattle.format.specs.Layout.{Value, number, text, Layout, done, field, split, string, tail, allows, stringBytes}
+use Rattle.format.specs.Masked.{Mask, slotLayout, anySet}
+use Rattle.format.specs.Floats.{isTime, notBefore}
+use Rattle.dem.specs.Scene.{Context as Numbers, zeroBaseline}
 use Rattle.dem.specs.Message.{row, soundSlots, soundTail, clientSlots, clientTail, updateSlots, updateMask, updateLayout, numberRule, isUpdate}
-use Rattle.dem.specs.Message.{equals, between, highRule, entityLayout, isPoint, isLine, names, notBefore, kindLayout, layout, entityRule, entity}
-use Rattle.dem.proofs.ResultLaws.{clash}
+use Rattle.dem.specs.Message.{equals, between, highRule, entityLayout, isPoint, isLine, names, kindLayout, layout, entityRule, entity}
+use Rattle.format.proofs.ResultLaws.{clash}
 use Rattle.message.specs.Values.{short, long, char, valuesBy, vectorValues, lookValues, poseValues, soundValues, temporaryValues, serverinfoValues}
 use Rattle.message.specs.Values.{motionValues, armsValues, suppliesValues, clientValues, updateValues}
 use Rattle.message.specs.declared.Vector.{Vector}

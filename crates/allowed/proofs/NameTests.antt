@@ -11,13 +11,13 @@ use borrow.Author.Tests.{eqb-true, eq-eqb, ne-eqb, leb-true, leb-false}
 use lib.Dec.{leb, eqb}
 use lib.ListN.{length, take, drop, length-drop, drop-of-length-le}
 use lib.Seq.{take-add, drop-at, length-take-le}
-use Rattle.dem.specs.Refusal.{wrongNumber}
-use Rattle.dem.specs.Bytes.{Bytes, Result, found, refused, refusedAt, unless, free, writeString}
-use Rattle.dem.specs.Layout.{Value, number, text, Layout, done, string, parse, print, allows}
+use Rattle.format.specs.Refusal.{wrongNumber}
+use Rattle.format.specs.Bytes.{Bytes, Result, found, refused, refusedAt, unless, free, writeString}
+use Rattle.format.specs.Layout.{Value, number, text, Layout, done, string, parse, print, allows}
 use Rattle.dem.specs.Message.{isEmpty, names}
-use Rattle.dem.proofs.ResultLaws.{clash}
-use Rattle.dem.proofs.ByteLaws.{take-bytes, drop-bytes}
-use Rattle.dem.proofs.LayoutLaws.{Allowed, parse-sound, parse-complete, allows→, allows←}
+use Rattle.format.proofs.ResultLaws.{clash}
+use Rattle.format.proofs.ByteLaws.{take-bytes, drop-bytes}
+use Rattle.format.proofs.LayoutLaws.{Allowed, parse-sound, parse-complete, allows→, allows←}
 use Rattle.wire.specs.Cursors.{gotten, parseAt, textIn, placed}
 use Rattle.wire.specs.declared.Cursor.{Cursor}
 use Rattle.wire.specs.declared.Text.{Text}

@@ -8,13 +8,14 @@ use Prim.Native.Nat.{ℕ, suc, _+_, _*_, _^_, _<_}
 use native.Mathlib.Omega.{arith}
 use borrow.Author.Tests.{lt-ltb, le-ltb, ltb-true, eqb-true, eqb-false, ne-eqb}
 use lib.Dec.{ltb, eqb, lit<}
-use Rattle.dem.specs.Limits.{stringLimit, entityCount}
-use Rattle.dem.specs.Refusal.{Refusal, code, wrongNumber}
-use Rattle.dem.specs.Bytes.{unless, free, bitOf}
-use Rattle.dem.specs.Layout.{Value, number, text, Layout, field, split, string, allows, stringBytes}
-use Rattle.dem.specs.Masked.{Slot, Mask, optional, isSent, slotLayout}
+use Rattle.format.specs.Limits.{stringLimit}
+use Rattle.dem.specs.Limits.{entityCount}
+use Rattle.format.specs.Refusal.{Refusal, code, wrongNumber}
+use Rattle.format.specs.Bytes.{unless, free, bitOf}
+use Rattle.format.specs.Layout.{Value, number, text, Layout, field, split, string, allows, stringBytes}
+use Rattle.format.specs.Masked.{Slot, Mask, optional, isSent, slotLayout}
 use Rattle.dem.specs.Message.{entityRule}
-use Rattle.dem.proofs.LayoutLaws.{Allowed, allows→}
+use Rattle.format.proofs.LayoutLaws.{Allowed, allows→}
 use Rattle.allowed.specs.Tests.{slotTest}
 
 -- ---- one field

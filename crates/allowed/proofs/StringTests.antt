@@ -10,8 +10,8 @@ use borrow.Author.Tests.{lt-leb, lt-ltb, eq-eqb}
 use lib.Dec.{ltb, eqb}
 use lib.ListN.{length, getD, take, drop, length-take, length-drop}
 use lib.Seq.{drop-cons}
-use Rattle.dem.specs.Limits.{stringLimit}
-use Rattle.dem.specs.Layout.{stringBytes}
+use Rattle.format.specs.Limits.{stringLimit}
+use Rattle.format.specs.Layout.{stringBytes}
 use Rattle.wire.specs.Cursors.{textIn, placed}
 use Rattle.wire.specs.declared.Text.{Text}
 

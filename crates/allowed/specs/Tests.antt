@@ -7,12 +7,14 @@ use lib.Dec.{leb, ltb, eqb}
 use mir.Val.{ofZ}
 use mir.Syntax.{w32}
 use Rattle.dem.specs.Kind
-use Rattle.dem.specs.Limits.{entityCount, playerCount, statCount, styleCount, staticLimit, nameLimit, stringLimit, protocol}
-use Rattle.dem.specs.Bytes.{bit}
-use Rattle.dem.specs.Layout.{Value, number, done, stringBytes, allows}
-use Rattle.dem.specs.Masked.{Slot, Mask, isSent, isNumber, anySet}
-use Rattle.dem.specs.Scene.{zeroBaseline, isTime}
-use Rattle.dem.specs.Message.{soundSlots, clientSlots, updateSlots, updateMask, names, notBefore, isPoint, isLine}
+use Rattle.format.specs.Limits.{stringLimit}
+use Rattle.dem.specs.Limits.{entityCount, playerCount, statCount, styleCount, staticLimit, nameLimit, protocol}
+use Rattle.format.specs.Bytes.{bit}
+use Rattle.format.specs.Layout.{Value, number, done, stringBytes, allows}
+use Rattle.format.specs.Masked.{Slot, Mask, isSent, isNumber, anySet}
+use Rattle.format.specs.Floats.{isTime, notBefore}
+use Rattle.dem.specs.Scene.{zeroBaseline}
+use Rattle.dem.specs.Message.{soundSlots, clientSlots, updateSlots, updateMask, names, isPoint, isLine}
 use Rattle.wire.specs.declared.Text.{Text}
 use Rattle.strings.specs.Names.{namesIn}
 use Rattle.message.specs.Values.{motionValues, armsValues, lookValues, poseValues}

@@ -1,8 +1,9 @@
 // The test behind refusal 13: whether some bytes read to a message as sent, in a scene.
 ghost use mathlib.Core.Path.{_≡_};
 ghost use mathlib.Core.List.{[]};
-ghost use Rattle.dem.specs.Limits.{stringLimit, nameLimit};
-ghost use Rattle.dem.specs.Layout.{allows, stringBytes, done};
+ghost use Rattle.format.specs.Limits.{stringLimit};
+ghost use Rattle.dem.specs.Limits.{nameLimit};
+ghost use Rattle.format.specs.Layout.{allows, stringBytes, done};
 ghost use Rattle.dem.specs.Message.{layout, names};
 ghost use Rattle.strings.specs.Names.{namesIn};
 ghost use Rattle.message.specs.Values.{valuesBy};

@@ -17,19 +17,20 @@ use lib.ListN.{length, take, drop, getD, set, replicate, length-append, length-d
 use lib.Seq.{take-append-seam, take-all}
 use Rattle.dem.specs.Kind
 use Rattle.dem.specs.Limits.{entityCount}
-use Rattle.dem.specs.Bytes.{Bytes, Result, found, refused, mapResult}
-use Rattle.dem.specs.Layout.{Value, number, Layout, parse, print, tail, put}
+use Rattle.format.specs.Bytes.{Bytes, Result, found, refused, mapResult}
+use Rattle.format.specs.Layout.{Value, number, Layout, parse, print, tail, put}
 use Rattle.dem.specs.Scene.{Scene, Context, contextOf, cleared}
-use Rattle.dem.specs.Message.{isMessage, isUpdate, numberRule, kindLayout, layout, layoutIn, updateLayout, fillUpdate, fillClient, fillSound, fill, sendUpdate, sendClient, sendSound, normal, apply}
-use Rattle.dem.specs.Codec.{normalBytes}
+use Rattle.dem.specs.Message.{isMessage, isUpdate, numberRule, kindLayout, layout, layoutIn, updateLayout, fillUpdate, fillClient, fillSound, fill}
+use Rattle.dem.specs.Message.{sendUpdate, sendClient, sendSound, normal, apply, normal as normalMessage}
+use Rattle.format.specs.Codec.{normalBytes}
 use Rattle.dem.specs.Recording.{readMessage, writeMessage, messages}
-use Rattle.dem.proofs.ResultLaws.{clash}
-use Rattle.dem.proofs.ByteLaws.{drop-bytes}
+use Rattle.format.proofs.ResultLaws.{clash}
+use Rattle.format.proofs.ByteLaws.{drop-bytes}
 use Rattle.dem.proofs.BlockLaws.{message-lawful}
 use Rattle.normal.specs.Normal.{soundOf, soundBytes}
 use Rattle.normal.proofs.SoundBytes.{no-sound}
-use Rattle.dem.proofs.LayoutLaws.{Allowed}
-use Rattle.dem.proofs.AtLaws.{one-at, parse-good}
+use Rattle.format.proofs.LayoutLaws.{Allowed}
+use Rattle.format.proofs.AtLaws.{one-at, parse-good}
 use Rattle.dem.proofs.MessageLaws.{kind-update, fill-update, fill-client}
 use Rattle.dem.proofs.UpdateLaws.{entity-known, UpdateRead, update-read}
 use Rattle.wire.specs.Cursors.{gotten, parseAt, placed}
@@ -93,7 +94,7 @@ pub record Unmasked (m : Sent) : Type 0 where
   pub update : (u : Update) → m ≡ M.Update u → ⊥
 
 pub other-form : (t : Scene) (f : Text → List ℕ) (read : List ℕ) (m : Sent) → Unmasked m → writeMessage t (valuesBy f m) ≡ read
-    → normalBytes messages t (valuesBy f m) ≡ soundBytes (contextOf t) read (soundOf m)
+    → normalBytes messages normalMessage t (valuesBy f m) ≡ soundBytes (contextOf t) read (soundOf m)
 unfolding normal fill writeMessage
 other-form t f read M.Nop h w = w
 other-form t f read M.Disconnect h w = w
@@ -135,9 +136,9 @@ passed-still : (t : Scene) (us : List Value) (n : ℕ) → isPassed n ≡ true �
 unfolding apply fill
 passed-still t us = each-passed (λ (n : ℕ). apply t (fill t (number n ∷ us)) ≡ t) refl refl refl refl refl refl refl
 
-passed-form : (t : Scene) (us : List Value) (n : ℕ) → isPassed n ≡ true → normalBytes messages t (number n ∷ us) ≡ writeMessage t (number n ∷ us)
+passed-form : (t : Scene) (us : List Value) (n : ℕ) → isPassed n ≡ true → normalBytes messages normalMessage t (number n ∷ us) ≡ writeMessage t (number n ∷ us)
 unfolding normal fill writeMessage
-passed-form t us = each-passed (λ (n : ℕ). normalBytes messages t (number n ∷ us) ≡ writeMessage t (number n ∷ us)) refl refl refl refl refl refl refl
+passed-form t us = each-passed (λ (n : ℕ). normalBytes messages normalMessage t (number n ∷ us) ≡ writeMessage t (number n ∷ us)) refl refl refl refl refl refl refl
 
 -- Clientdata as it was sent, behind what was read and filled in.
 pub record ClientRead (s : List ℕ) (at : ℕ) (x : Context) (k : Client) (c : Cursor) : Type 0 where
@@ -193,7 +194,7 @@ module _ (s : List ℕ) (at : ℕ) (l : at < length s) (b : List Baseline) (e : 
       parsed-refused z = message-refused (held b e p x) s at going vs c q z
 
       pub parsed-moved : c .refusal ≡ 0 → (t : Scene) → apply (held b e p x) (fill (held b e p x) vs) ≡ t
-          → (form : List ℕ) → normalBytes messages (held b e p x) vs ≡ form → Moved s (held b e p x) at t (c .at) form
+          → (form : List ℕ) → normalBytes messages normalMessage (held b e p x) vs ≡ form → Moved s (held b e p x) at t (c .at) form
       unfolding sceneWith
       parsed-moved z t f form g = record { values = vs; read = message-found (held b e p x) s at going vs c q z; scene = f; normal = g }
 
@@ -211,7 +212,7 @@ module _ (s : List ℕ) (at : ℕ) (l : at < length s) (b : List Baseline) (e : 
     updateForm i r = print (layoutIn (held b e p x)) (sendUpdate (baselineNumbers (getD b i noBaseline)) (number i ∷ recordValues r))
 
     update-normal : (i : ℕ) (r : Record) (vs : List Value) → fill (held b e p x) vs ≡ number Kind.update ∷ number i ∷ recordValues r
-        → normalBytes messages (held b e p x) vs ≡ updateForm i r
+        → normalBytes messages normalMessage (held b e p x) vs ≡ updateForm i r
     unfolding sceneWith normal writeMessage
     update-normal i r vs f =
         ap (λ (m : List Value). print (layoutIn (held b e p x)) (normal (held b e p x) m)) f
@@ -237,7 +238,7 @@ module _ (s : List ℕ) (at : ℕ) (l : at < length s) (b : List Baseline) (e : 
         update-known =
             let r : UpdateRead [] (u .number) (tail (updateValues u)) =
             update-read [] (u .number) (tail (updateValues u))
-            (subst (λ (y : Rattle.dem.specs.Layout.Layout). Allowed y (tail (updateValues u))) (kind-update (contextOf (held b e p x)) (u .number) numbered) (allowed .2)) in
+            (subst (λ (y : Rattle.format.specs.Layout.Layout). Allowed y (tail (updateValues u))) (kind-update (contextOf (held b e p x)) (u .number) numbered) (allowed .2)) in
             let y : number (u .high) ∷ number (u .entity .0) ∷ tail (tail (tail (updateValues u))) ≡ number (r .high) ∷ number (r .entity) ∷ r .fields = r .all in
             let w : u .entity .0 ≡ r .entity = cc in
             subst (λ (k : ℕ). k < entityCount) (sym w) (r .known)

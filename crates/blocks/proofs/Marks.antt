@@ -9,8 +9,8 @@ use borrow.Author.Tests.{lt-ltb, le-ltb, ltb-true, ltb-false, eqb-true, eqb-fals
 use lib.Dec.{ltb, eqb}
 use lib.ListN.{length, take, getD, set, replicate, length-map, length-set, List·getD-map}
 use lib.Seq.{take-suc, take-suc-set, take-all, getD-set-same, getD-set-other, set-out}
-use Rattle.dem.specs.Bytes.{bitOf}
-use Rattle.dem.proofs.ListLaws.{map-set}
+use Rattle.format.specs.Bytes.{bitOf}
+use Rattle.format.proofs.ListLaws.{map-set}
 use Rattle.blocks.specs.Marks.{marked}
 
 -- ---- a list that holds, up to a place, what another one is mapped to

@@ -7,7 +7,7 @@ use Prim.Native.Nat.{ℕ, _+_, _-_, _<_, _≤_}
 use native.Mathlib.Omega.{arith}
 use lib.ListN.{length, take, drop, length-take, length-drop, length-append}
 use lib.Seq.{take-add, drop-drop}
-use Rattle.dem.proofs.ResultLaws.{clash}
+use Rattle.format.proofs.ResultLaws.{clash}
 use Rattle.normal.specs.Put.{Put, Behind}
 
 -- A test that is made only where normal forms are wanted.

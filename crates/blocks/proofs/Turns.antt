@@ -10,24 +10,28 @@ use borrow.Author.Tests.{eq-eqb, ne-eqb, lt-ltb, le-ltb, ltb-true, ltb-false, le
 use lib.Dec.{leb, ltb, eqb}
 use lib.ListN.{length, take, drop, getD, length-take, length-drop, length-append, drop-of-length-le}
 use lib.Seq.{take-nil, drop-cons, drop-drop, length-take-le, sets, length-sets}
-use Rattle.dem.specs.Bytes.{Bytes, Result, found, refused, mapResult, bind, leWrite}
-use Rattle.dem.specs.Layout.{Value, number, print}
+use Rattle.format.specs.Bytes.{Bytes, Result, found, refused, mapResult, bind, leWrite}
+use Rattle.format.specs.Layout.{Value, number, print}
 use Rattle.dem.specs.Scene.{Scene, inRange}
-use Rattle.dem.specs.Message.{Message, fill, apply}
-use Rattle.dem.specs.Codec.{after, stopped, WrittenRun, silent, roomless, led, writeOn, writeMost, readMost, readAll, fillAll, applyAll, Each, writeNormal, normalBytes}
-use Rattle.dem.specs.Recording.{readMessage, messages, Block, angleLayout, blockOf, readBefore, readBody, readBlock, writeBlock, normalBlock, fillBlock, applyBlock, blocks}
+use Rattle.dem.specs.Message.{Message, fill, apply, normal as normalMessage}
+use Rattle.format.specs.Codec.{after, stopped, WrittenRun, silent, roomless, led, writeOn, writeMost, readAll, fillAll, applyAll, Each, writeNormal}
+use Rattle.format.specs.Codec.{normalBytes, readBefore}
+use Rattle.dem.specs.Recording.{readMessage, messages, Block, angleLayout, blockOf, readBody, readBlock, writeBlock, normalBlock, fillBlock}
+use Rattle.dem.specs.Recording.{applyBlock, blocks}
 use Rattle.dem.specs.Answer.{countMessages}
 use Rattle.dem.specs.WellFormed.{GoodMessage}
-use Rattle.dem.proofs.ResultLaws.{Ranged}
-use Rattle.dem.proofs.ByteLaws.{take-bytes, drop-bytes, le-length}
-use Rattle.dem.proofs.CodecLaws.{Taken, afterAll, shrinks, read-next, all-ranged, all-sound, all-normal}
-use Rattle.dem.proofs.BlockLaws.{message-lawful}
+use Rattle.format.proofs.ResultLaws.{Ranged, suffix-length}
+use Rattle.format.proofs.ByteLaws.{take-bytes, drop-bytes, le-length}
+use Rattle.format.proofs.CodecLaws.{Taken, afterAll, shrinks, all-normal}
+use Rattle.format.proofs.ReadLaws.{read-next, all-ranged, all-sound}
+use Rattle.dem.proofs.BlockLaws.{message-lawful, message-normalises}
 use Rattle.dem.proofs.RangeLaws.{message-range}
 use Rattle.heads.specs.Heads.{headIn, headOf}
 use Rattle.heads.specs.declared.HeadAt.{HeadAt}
 use Rattle.heads.proofs.HeadLaws.{block-head}
-use Rattle.dem.proofs.ListLaws.{sets-append}
+use Rattle.format.proofs.ListLaws.{sets-append}
 use Rattle.blocks.specs.Runs.{Told, refusedIn, quickUntil, countedOf, toldOf, messageForm, blockForm, Wrote, put, wroteOf, runOf}
+use Rattle.dem.proofs.RefusalLaws.{listed}
 
 take-drop : (m n : ℕ) (l : List ℕ) → take m (drop n l) ≡ drop n (take (n + m) l)
 take-drop m zero l = let e : m ≡ 0 + m = omega arith in ap (λ (k : ℕ). take k l) e
@@ -51,7 +55,7 @@ pub record Moved (s : List ℕ) (t : Scene) (at : ℕ) (t′ : Scene) (to : ℕ)
   pub values : List Value
   pub read : readMessage t (drop at s) ≡ found values (drop to s)
   pub scene : apply t (fill t values) ≡ t′
-  pub normal : normalBytes messages t values ≡ form
+  pub normal : normalBytes messages normalMessage t values ≡ form
 
 module _ (s : List ℕ) (h : Bytes s) (t : Scene) (at : ℕ) (t′ : Scene) (to : ℕ) (form : List ℕ) (m : Moved s t at t′ to form) where
   taken : Taken messages GoodMessage t (drop at s) (m .values) (drop to s)
@@ -72,7 +76,7 @@ module _ (s : List ℕ) (h : Bytes s) (t : Scene) (at : ℕ) (t′ : Scene) (to 
   moved-short true =
       omega (
         arith,
-        subst (λ (x : List ℕ). length x ≤ length (messages .write t (m .values))) (m .normal) (message-lawful .normal-short t (m .values) (taken .good)),
+        subst (λ (x : List ℕ). length x ≤ length (messages .write t (m .values))) (m .normal) (message-normalises .short t (m .values) (taken .good)),
         ap length (taken .tiles),
         length-append (messages .write t (m .values)) (drop to s),
         length-drop at s,
@@ -108,7 +112,7 @@ put-block-there false true out at angles body size e = refl
 put-block-there false false out at angles body size e = refl
 
 abbrev bodyOf : Bool → Scene → List Message → List ℕ
-bodyOf on t vs = cond on (writeNormal messages t (fillAll messages t vs)) []
+bodyOf on t vs = cond on (writeNormal messages normalMessage t (fillAll messages t vs)) []
 
 grown : (on : Bool) (a x y : List ℕ) → a ++ cond on (x ++ y) [] ≡ (a ++ cond on x []) ++ cond on y []
 grown true a x y = sym (append-assoc a x y)
@@ -118,7 +122,7 @@ formed : (on : Bool) (t : Scene) (angles : List Value) (vs : List Message) → E
     → blockForm on t (blockOf angles vs) ≡ blockBytes on angles (bodyOf on t vs)
 unfolding writeBlock normalBlock fillBlock
 formed true t angles vs g =
-    ap (λ (body : List ℕ). leWrite 4 (length body) ++ (print angleLayout angles ++ body)) (all-normal messages GoodMessage message-lawful t vs g .writes)
+    ap (λ (body : List ℕ). leWrite 4 (length body) ++ (print angleLayout angles ++ body)) (all-normal messages GoodMessage normalMessage message-normalises t vs g .writes)
 formed false t angles vs g = refl
 
 -- Inside the block from one place to another, behind b blocks and w bytes of the room, and behind which at most n more are read.
@@ -157,7 +161,7 @@ module _ (given : Scene) (d : List ℕ) (on stores : Bool) (room base b n start 
   inside-one m t body v (found vs rest) =
       let k : m + suc (length vs) ≡ m + 1 + length vs = omega arith in
       ap₂ (λ (k : ℕ) (x : List ℕ). closed k (afterAll messages (after messages t v) vs) (blockBytes on angles x)) k
-      (grown on body (normalBytes messages t v) (writeNormal messages (after messages t v) (fillAll messages (after messages t v) vs)))
+      (grown on body (normalBytes messages normalMessage t v) (writeNormal messages normalMessage (after messages t v) (fillAll messages (after messages t v) vs)))
   inside-one m t body v (refused k left) = refl
 
   module _ (h : Bytes d) (in? : end ≤ length d) (m : ℕ) (t : Scene) (body : List ℕ) (at : ℕ) where
@@ -194,7 +198,7 @@ module _ (given : Scene) (d : List ℕ) (on stores : Bool) (room base b n start 
 
     pub on-end : length (take end d) ≤ at
         → inside m t body (readAll messages t (drop at (take end d))) ≡ closed m t (blockBytes on angles body)
-    unfolding readMost fillAll applyAll writeNormal
+    unfolding readAll writeMost fillAll applyAll writeNormal
     on-end l =
         let k : m + 0 ≡ m = omega arith in
         ap (λ (bs : List ℕ). inside m t body (readAll messages t bs)) (drop-of-length-le (take end d) l)
@@ -366,7 +370,7 @@ module _ (given : Scene) (d : List ℕ) (on stores : Bool) (room base b m w : �
         behind : drop size (drop (start + 16) d) ≡ drop (start + 16 + size) d
         behind = drop-drop size (start + 16) d
 
-        go : (r : Result (List Message)) → readAll messages t (take size (drop (start + 16) d)) ≡ r → Ranged (take size (drop (start + 16) d)) r
+        go : (r : Result (List Message)) → readAll messages t (take size (drop (start + 16) d)) ≡ r → Ranged listed (take size (drop (start + 16) d)) r
             → wroteOf given (length d) stores base b m w out
             (writeOn (blockForm on) (room - w) t (drop start d) (readBefore (drop size (drop (start + 16) d)) (blockOf angles) r) later)
             ≡ inside given d on stores room base b n start (start + 16 + size) angles w out m t [] r
@@ -382,7 +386,7 @@ module _ (given : Scene) (d : List ℕ) (on stores : Bool) (room base b m w : �
             λ z.
             omega (
               arith,
-              r .2,
+              suffix-length left _ (r .2),
               length-append left behind′,
               length-take size (drop (start + 16) d),
               length-drop size (drop (start + 16) d),

@@ -5,12 +5,12 @@ use Prim.Native.Nat.{ℕ, _+_, _-_}
 use lib.ListN.{length}
 use lib.Seq.{sets}
 use lib.Dec.{leb, eqb}
-use Rattle.dem.specs.Bytes.{leWrite}
-use Rattle.dem.specs.Layout.{Value, print}
+use Rattle.format.specs.Bytes.{leWrite}
+use Rattle.format.specs.Layout.{Value, print}
 use Rattle.dem.specs.Scene.{Scene}
-use Rattle.dem.specs.Message.{Message}
-use Rattle.dem.specs.Codec.{Run, WrittenRun, writeMost, normalBytes}
-use Rattle.dem.specs.Recording.{Block, angleLayout, messages, blocks}
+use Rattle.dem.specs.Message.{Message, normal as normalMessage}
+use Rattle.format.specs.Codec.{Run, WrittenRun, writeMost, normalBytes}
+use Rattle.dem.specs.Recording.{Block, angleLayout, messages, blocks, normalBlock}
 use Rattle.dem.specs.Answer.{countMessages}
 use Rattle.scene.specs.Views.{sceneOf}
 use Rattle.blocks.specs.declared.BlocksAt.{BlocksAt}
@@ -50,10 +50,10 @@ answered r =
 
 -- The normal form of a message or a block, where it is to be written.
 abbrev pub messageForm : Bool → Scene → Message → List ℕ
-messageForm on s v = cond on (normalBytes messages s v) []
+messageForm on s v = cond on (normalBytes messages normalMessage s v) []
 
 abbrev pub blockForm : Bool → Scene → Block → List ℕ
-blockForm on s v = cond on (normalBytes blocks s v) []
+blockForm on s v = cond on (normalBytes blocks normalBlock s v) []
 
 -- Also how many bytes were written, and what the room holds.
 pub record Wrote : Type 0 where

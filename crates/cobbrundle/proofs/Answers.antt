@@ -3,9 +3,9 @@
 use mathlib.Core.Path.{_≡_, refl}
 use Prim.Native.Nat.{ℕ}
 use lib.ListN.{getD}
-use Rattle.dem.specs.Layout.{number, asNumber}
-use Rattle.dem.specs.Answer.{Answer, result, atEnd, refusal, Track, Outline as Told}
-use Rattle.dem.specs.Answer.{Progress as Passed, Rewriting as Rewritten, Normalised, Summary}
+use Rattle.format.specs.Layout.{number, asNumber}
+use Rattle.format.specs.Answer.{Answer, result, atEnd, refusal, Progress as Passed, Rewriting as Rewritten, Normalised}
+use Rattle.dem.specs.Answer.{Track, Outline as Told, Summary}
 use Rattle.cobbrundle.specs.Replies.{countOf, trackAnswerOf, blockAnswerOf, blocksAnswerOf, recordingAnswerOf, rewriteAnswerOf}
 use Rattle.cobbrundle.specs.Replies.{normalAnswerOf, trackCountOf}
 use Rattle.cobbrundle.specs.declared.WriteAnswer.{WriteAnswer}

@@ -5,7 +5,7 @@ use mathlib.Core.List.{List, [], _∷_, _++_}
 use Prim.Native.Nat.{ℕ, zero, suc, _+_, _-_, _<_, _≤_, zero-le}
 use native.Mathlib.Omega.{arith}
 use lib.ListN.{length, take, drop, length-take, length-drop}
-use Rattle.dem.specs.Bytes.{Bytes}
+use Rattle.format.specs.Bytes.{Bytes}
 use Rattle.dem.specs.Scene.{fresh}
 use Rattle.dem.specs.Answer.{trackAt, trackNormal}
 use Rattle.dem.proofs.CallLaws.{track-told}

@@ -4,15 +4,15 @@
 use mathlib.Core.Path.{_≡_, sym, ap, subst, _∙_}
 use mathlib.Core.List.{List}
 use Prim.Native.Nat.{ℕ}
-use Rattle.dem.specs.Bytes.{Bytes}
+use Rattle.format.specs.Bytes.{Bytes}
 use Rattle.dem.specs.Scene.{Scene as Described, fresh}
 use Rattle.dem.specs.Message.{Message as Values}
-use Rattle.dem.specs.Codec.{Codec}
+use Rattle.format.specs.Codec.{Codec}
 use Rattle.dem.specs.Recording.{messages}
-use Rattle.dem.specs.Answer.{Answer, reply, written}
-use Rattle.dem.specs.Answer.{messageAt, outlineAt, blocksAt, writeSent, normalAt, normalBlocksAt, whole, wholeNormal}
-use Rattle.dem.proofs.GivenLaws.{GivenBack, given-through, Replied, Wrote, item-given, form-given, outline-given, sent-given, run-given, forms-given}
-use Rattle.dem.proofs.GivenLaws.{whole-given, whole-normal-given}
+use Rattle.format.specs.Answer.{Answer, reply, written, normalAt}
+use Rattle.dem.specs.Answer.{messageAt, outlineAt, blocksAt, writeSent, normalBlocksAt, whole, wholeNormal}
+use Rattle.format.proofs.GivenLaws.{GivenBack, given-through, Replied, Wrote, item-given, form-given}
+use Rattle.dem.proofs.GivenLaws.{outline-given, sent-given, run-given, forms-given, whole-given, whole-normal-given}
 use Rattle.wire.proofs.FieldLaws.{Held, Fixed}
 use Rattle.scene.specs.declared.Scene.{Scene}
 use Rattle.scene.specs.Views.{sceneOf}
@@ -140,10 +140,11 @@ module _ (scene : Scene) (held : Held SceneType.the-row scene) where
   blocks-given r s at h e = very (r .scene) (_, h .1 .1 .1 .1 .0) (blocksAnswerOf (r .answer)) (subst (Replied t) (sym e) (run-given t s at))
 
   -- Of a message or a block.
-  pub normal-given : {A B : Type 0} (c : Codec Described A B) (r : NormalReply) (s : List ℕ) (at : ℕ) (room room′ : List ℕ)
-      → Held NormalType.the-row r → normalReplyOf r room′ ≡ normalAt c t s at room → GivenBack scene (r .scene) (normalAnswerOf (r .answer))
-  normal-given c r s at room room′ h e =
-      very (r .scene) (_, h .1 .1 .1 .1 .0) (normalAnswerOf (r .answer)) (subst (Wrote t) (sym e) (form-given c t s at room))
+  pub normal-given : {A B : Type 0} (c : Codec Described A B) (normal : Described → B → A) (r : NormalReply) (s : List ℕ) (at : ℕ)
+      (room room′ : List ℕ) → Held NormalType.the-row r → normalReplyOf r room′ ≡ normalAt c normal t s at room
+      → GivenBack scene (r .scene) (normalAnswerOf (r .answer))
+  normal-given c normal r s at room room′ h e =
+      very (r .scene) (_, h .1 .1 .1 .1 .0) (normalAnswerOf (r .answer)) (subst (Wrote t) (sym e) (form-given c normal t s at room))
 
   pub rewrite-given : (r : RewriteReply) (s : List ℕ) (at : ℕ) (room room′ : List ℕ) → Held RewriteType.the-row r
       → rewriteReplyOf r room′ ≡ normalBlocksAt t s at room → GivenBack scene (r .scene) (rewriteAnswerOf (r .answer))

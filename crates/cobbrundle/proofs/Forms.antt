@@ -14,16 +14,18 @@ use types.Run.{OneOf}
 use lib.Dec.{eqb}
 use lib.ListN.{length, take, drop, length-take, length-drop}
 use lib.Seq.{sets, sets-eq, length-take-le}
-use Rattle.dem.specs.Bytes.{Bytes}
+use Rattle.format.specs.Bytes.{Bytes}
 use Rattle.dem.specs.Kind
-use Rattle.dem.specs.Layout.{Value, number, print, tail}
+use Rattle.format.specs.Layout.{Value, number, print, tail}
 use Rattle.dem.specs.Scene.{Scene, Context, contextOf, baselineAt}
 use Rattle.dem.specs.Message.{numberRule, kindLayout, layout, layoutIn, fillUpdate, fillClient, sendUpdate, sendClient, fill, normal}
-use Rattle.dem.specs.Codec.{normalBytes}
+use Rattle.dem.specs.Message.{normal as normalMessage}
+use Rattle.format.specs.Codec.{normalBytes}
 use Rattle.dem.specs.Recording.{writeMessage, messages}
-use Rattle.dem.specs.Answer.{result, refusal, Reply, reply, Item, written, intoRoom, Normalised, messageAt, normalOf, normalAt}
-use Rattle.dem.proofs.AnswerLaws.{room-enough, room-short}
-use Rattle.dem.proofs.LayoutLaws.{field-length}
+use Rattle.format.specs.Answer.{result, refusal, Reply, reply, Item, written, intoRoom, Normalised, normalOf, normalAt}
+use Rattle.dem.specs.Answer.{messageAt}
+use Rattle.format.proofs.AnswerLaws.{room-enough, room-short}
+use Rattle.format.proofs.LayoutLaws.{field-length}
 use Rattle.dem.proofs.MessageLaws.{fill-update, fill-client}
 use Rattle.wire.specs.Cursors.{placed}
 use Rattle.wire.specs.declared.Text.{Text}
@@ -70,7 +72,7 @@ module _ (before form : List ℕ) (size : ℕ) (read bytes : List ℕ) (p : Put 
 
 module _ (t : Scene) (f : Text → List ℕ) (m : Sent) (before form : List ℕ) (size : ℕ) where
   abbrev Chosen : Type 0
-  Chosen = normalBytes messages t (valuesBy f m) ≡ chosen size (writeMessage t (valuesBy f m)) form
+  Chosen = normalBytes messages normalMessage t (valuesBy f m) ≡ chosen size (writeMessage t (valuesBy f m)) form
 
   pub client-chosen : (d : Clientdata) (k : Client) → m ≡ M.Clientdata d → number Kind.clientdata ∷ clientValues k ≡ fillClient (sentClientValues d)
       → Put before form 0 size (print (layoutIn t) (sendClient (clientValues k))) → Chosen
@@ -146,10 +148,10 @@ module _ (t u : Scene) (text room : List ℕ) (start len next : ℕ) (h : start 
 module _ (scene : Held) (s : List ℕ) (at : ℕ) (room : List ℕ) (r : MessageReply) (read : replyOf s r ≡ messageAt (sceneOf scene) s at) where
   -- What the reader's answer says of the normal form.
   pub answered : (a : MessageAnswer) → r .answer ≡ a
-      → normalOf messages (sceneOf scene) s (sceneOf (r .scene)) room (answerOf s a) ≡ normalAt messages (sceneOf scene) s at room
+      → normalOf messages normalMessage (sceneOf scene) s (sceneOf (r .scene)) room (answerOf s a) ≡ normalAt messages normalMessage (sceneOf scene) s at room
   unfolding normalAt
   answered a e =
-      ap (λ (q : Reply Scene (Item (List Value) (List Value))). normalOf messages (sceneOf scene) s (q .scene) room (q .answer))
+      ap (λ (q : Reply Scene (Item (List Value) (List Value))). normalOf messages normalMessage (sceneOf scene) s (q .scene) room (q .answer))
       (ap (λ (x : MessageAnswer). reply (sceneOf (r .scene)) (answerOf s x)) (sym e) ∙ read)
 
   module _ (bytes : Bytes s) (m : Sent) (f : Filled) (next : ℕ) (was : r .answer ≡ Found m f next) where
@@ -168,8 +170,8 @@ module _ (scene : Held) (s : List ℕ) (at : ℕ) (room : List ℕ) (r : Message
     numbered = allowed-numbered (contextOf (sceneOf scene)) (placed s) m (found-good (sceneOf scene) s at (sceneOf (r .scene)) item it bytes .allowed)
 
     -- With the bytes of its normal form.
-    formed : (form : List ℕ) (n : ℕ) → normalBytes messages (sceneOf scene) (valuesOf s m) ≡ form → length form ≡ n
-        → intoRoom (sceneOf scene) (told (sceneOf (r .scene)) n next) form room ≡ normalAt messages (sceneOf scene) s at room
+    formed : (form : List ℕ) (n : ℕ) → normalBytes messages normalMessage (sceneOf scene) (valuesOf s m) ≡ form → length form ≡ n
+        → intoRoom (sceneOf scene) (told (sceneOf (r .scene)) n next) form room ≡ normalAt messages normalMessage (sceneOf scene) s at room
     formed form n e l =
         let t = sceneOf scene in
         let same : form ≡ writeMessage t (normal t (filledBy (valuesTo s next) f)) = sym e ∙ ap (λ (vs : List Value). writeMessage t (normal t vs)) (sym (it .filled)) in
@@ -177,9 +179,9 @@ module _ (scene : Held) (s : List ℕ) (at : ℕ) (room : List ℕ) (r : Message
         ∙ ap (λ (bs : List ℕ). intoRoom t (told (sceneOf (r .scene)) (length bs) next) bs room) same
         ∙ answered (Found m f next) was
 
-    module _ (size : ℕ) (form : List ℕ) (p : (g : Text → List ℕ) → Numbered m → normalBytes messages (sceneOf scene) (valuesBy g m) ≡ chosen size (writeMessage (sceneOf scene) (valuesBy g m)) form) where
+    module _ (size : ℕ) (form : List ℕ) (p : (g : Text → List ℕ) → Numbered m → normalBytes messages normalMessage (sceneOf scene) (valuesBy g m) ≡ chosen size (writeMessage (sceneOf scene) (valuesBy g m)) form) where
       pub as-read : size ≡ 0
-          → intoRoom (sceneOf scene) (told (sceneOf (r .scene)) (next - at) next) (take (next - at) (drop at s)) room ≡ normalAt messages (sceneOf scene) s at room
+          → intoRoom (sceneOf scene) (told (sceneOf (r .scene)) (next - at) next) (take (next - at) (drop at s)) room ≡ normalAt messages normalMessage (sceneOf scene) s at room
       as-read z =
           let b = writeMessage (sceneOf scene) (valuesOf s m) in
           formed (take (next - at) (drop at s)) (next - at)
@@ -187,7 +189,7 @@ module _ (scene : Held) (s : List ℕ) (at : ℕ) (room : List ℕ) (r : Message
           (part-length (sceneOf scene) (sceneOf scene) s room at (next - at) next (place-after .1))
 
       pub anew : size ≢ 0 → size ≤ length form
-          → intoRoom (sceneOf scene) (told (sceneOf (r .scene)) size next) (take size (drop 0 form)) room ≡ normalAt messages (sceneOf scene) s at room
+          → intoRoom (sceneOf scene) (told (sceneOf (r .scene)) size next) (take size (drop 0 form)) room ≡ normalAt messages normalMessage (sceneOf scene) s at room
       anew z l =
           let b = writeMessage (sceneOf scene) (valuesOf s m) in
           formed (take size form) size

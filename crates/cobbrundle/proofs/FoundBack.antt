@@ -8,12 +8,13 @@ use mathlib.Core.Bool.{true}
 use Prim.Native.Nat.{ℕ, _≤_}
 use lib.ListN.{length, drop}
 use denote.Enum.Laws.{owed}
-use Rattle.dem.specs.Bytes.{Bytes, found}
-use Rattle.dem.specs.Layout.{allows}
+use Rattle.format.specs.Bytes.{Bytes, found}
+use Rattle.format.specs.Layout.{allows}
 use Rattle.dem.specs.Scene.{Scene as Described, contextOf}
 use Rattle.dem.specs.Message.{Message as Values, layoutIn, fill}
-use Rattle.dem.specs.Answer.{Answer, result, atEnd, refusal, Item, messageAt}
-use Rattle.dem.proofs.LayoutLaws.{allows→}
+use Rattle.format.specs.Answer.{Answer, result, atEnd, refusal, Item}
+use Rattle.dem.specs.Answer.{messageAt}
+use Rattle.format.proofs.LayoutLaws.{allows→}
 use Rattle.wire.specs.Cursors.{placed}
 use Rattle.wire.proofs.FieldLaws.{Held}
 use Rattle.message.specs.declared.Message.{Message}

@@ -9,17 +9,18 @@ use borrow.Author.Tests.{eqb-true, eqb-false, ltb-true, ltb-false}
 use lib.Dec.{eqb, ltb}
 use lib.ListN.{length, take, drop, length-drop}
 use lib.Seq.{take-append-seam}
-use Rattle.dem.specs.Bytes.{Bytes, Result, found, refused}
-use Rattle.dem.specs.Layout.{Value}
+use Rattle.format.specs.Bytes.{Bytes, Result, found, refused}
+use Rattle.format.specs.Layout.{Value}
 use Rattle.dem.specs.Scene.{Scene, inRange}
 use Rattle.dem.specs.Message.{Message, layoutIn, fill, apply}
 use Rattle.dem.specs.WellFormed.{GoodMessage}
-use Rattle.dem.specs.Recording.{readMessage, writeMessage, messages, placeIn}
-use Rattle.dem.specs.Answer.{Answer, result, atEnd, refusal, Reply, reply, Item, itemOf, messageAt}
-use Rattle.dem.proofs.ResultLaws.{clash}
-use Rattle.dem.proofs.ByteLaws.{drop-bytes}
+use Rattle.format.specs.Answer.{placeIn, Answer, result, atEnd, refusal, Reply, reply, Item, itemOf}
+use Rattle.dem.specs.Recording.{readMessage, writeMessage, messages}
+use Rattle.dem.specs.Answer.{messageAt}
+use Rattle.format.proofs.ResultLaws.{clash}
+use Rattle.format.proofs.ByteLaws.{drop-bytes}
 use Rattle.dem.proofs.BlockLaws.{message-lawful}
-use Rattle.dem.proofs.AnswerLaws.{item-wrong, item-end, item-past, item-at, item-next, place-drop}
+use Rattle.format.proofs.AnswerLaws.{item-wrong, item-end, item-past, item-at, item-next, place-drop}
 use Rattle.wire.specs.Cursors.{gotten, parseAt}
 use Rattle.wire.specs.declared.Cursor.{Cursor}
 use Rattle.wire.proofs.Sticky.{here}

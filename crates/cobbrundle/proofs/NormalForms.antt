@@ -9,20 +9,21 @@ use native.Mathlib.Omega.{arith}
 use borrow.Author.Tests.{eq-eqb, ne-eqb, eqb-true, eqb-false, le-leb, lt-ltb, not-true}
 use lib.Dec.{eqb}
 use lib.ListN.{length, drop, length-drop}
-use Rattle.dem.specs.Bytes.{Bytes, found, refused}
+use Rattle.format.specs.Bytes.{Bytes, found, refused}
 use Rattle.dem.specs.Scene.{Scene, inRange}
-use Rattle.dem.specs.Codec.{after, stopped, preceded, runMost, WrittenRun, silent, roomless, writeMost, normalBytes}
-use Rattle.dem.specs.Recording.{Block, readBlock, blocks, placeIn}
-use Rattle.dem.specs.Answer.{Item, Reply, Written, Rewriting, Normalised, result, atEnd, refusal, reply, written, countMessages, itemAt, normalOf, normalAt, normalBlocksAt}
+use Rattle.format.specs.Codec.{after, stopped, preceded, runMost, WrittenRun, silent, roomless, writeMost, normalBytes}
+use Rattle.format.specs.Answer.{placeIn, Item, Reply, Written, Rewriting, Normalised, result, atEnd, refusal, reply, written, itemAt, normalOf}
+use Rattle.format.specs.Answer.{normalAt, writtenAt}
+use Rattle.dem.specs.Recording.{Block, readBlock, blocks, normalBlock}
+use Rattle.dem.specs.Answer.{countMessages, normalBlocksAt}
 use Rattle.dem.specs.WellFormed.{GoodBlock}
-use Rattle.dem.proofs.ByteLaws.{drop-bytes}
-use Rattle.dem.proofs.LayoutLaws.{and-true}
-use Rattle.dem.proofs.RunLaws.{readOf}
+use Rattle.format.proofs.ByteLaws.{drop-bytes}
+use Rattle.format.proofs.LayoutLaws.{and-true}
+use Rattle.format.proofs.WrittenLaws.{readOf, written-found, written-roomless, written-refused, written-again, written-fits, written-short-room}
+use Rattle.format.proofs.WrittenLaws.{written-within, Normalises, callWritten, callShort, callRefused, normalises}
 use Rattle.dem.proofs.BlockLaws.{block-lawful}
-use Rattle.dem.proofs.ListLaws.{sets-front}
-use Rattle.dem.proofs.AnswerLaws.{item-wrong, item-end, item-past, item-refused}
-use Rattle.dem.proofs.WrittenLaws.{written-found, written-roomless, written-refused, written-again, written-fits, written-short-room, written-within}
-use Rattle.dem.proofs.WrittenLaws.{Normalises, callWritten, callShort, callRefused, normalises}
+use Rattle.format.proofs.ListLaws.{sets-front}
+use Rattle.format.proofs.AnswerLaws.{item-wrong, item-end, item-past, item-refused}
 use Rattle.dem.proofs.RewritingLaws.{writtenBlocks, normal-blocks-at}
 use Rattle.scene.specs.Views.{sceneOf}
 use Rattle.blocks.specs.Runs.{Told, refusedIn, toldOf, answered, Wrote, stored, put, wroteOf, wrote}
@@ -94,12 +95,12 @@ module _ (t : Scene) (d room : List ℕ) (w : WrittenAt) (out : List ℕ) (run :
 -- ---- blocks in normal form from a place on
 
 pub rewrite-wrong : (t : Scene) (d : List ℕ) (at : ℕ) (room : List ℕ) → inRange t ≡ false → normalBlocksAt t d at room ≡ written (reply t (refusal 14 0)) room
-unfolding normalBlocksAt
+unfolding writtenAt
 rewrite-wrong t d at room e = rw e
 
 pub rewrite-past : (t : Scene) (d : List ℕ) (at : ℕ) (room : List ℕ) → inRange t ≡ true → length d < at
     → normalBlocksAt t d at room ≡ written (reply t (refusal 5 at)) room
-unfolding normalBlocksAt
+unfolding writtenAt
 rewrite-past t d at room e l = rw (e, lt-ltb (length d) at l)
 
 -- Blocks that were read, what stopped the run behind them, the number of their bytes and the room.
@@ -119,7 +120,7 @@ module _ (t : Scene) (d : List ℕ) (at : ℕ) (room : List ℕ) (h : Bytes d) (
   rewritten-all c es eb em en =
       let k : Counted d (w .read) all = counted t d room w out all q in
       let size = length-written t d room w out all q in
-      let held = room-written t d room w out all q (written-fits blocks (normalBytes blocks) (length d) (length room) t (drop at d)) in
+      let held = room-written t d room w out all q (written-fits blocks (normalBytes blocks normalBlock) (length d) (length room) t (drop at d)) in
       (λ i. rewriteReply (es i) (eb i) (em i) (en i) (k .refusal i) (k .place i) (size i) (held i))
       ∙ sym (normal-blocks-at t d at room g l)
 
@@ -130,7 +131,7 @@ module _ (t : Scene) (d : List ℕ) (at : ℕ) (room : List ℕ) (h : Bytes d) (
   rewritten-once e =
       let k : Counted d (w .read) all = counted t d room w out all q in
       let p = enough-told t d room w out all q (enough (eqb (all .needed) 0) refl) in
-      let i = written-within blocks GoodBlock block-lawful (normalBytes blocks) (length d) (length room) t (drop at d) (drop-bytes at d h) in
+      let i = written-within blocks GoodBlock block-lawful (normalBytes blocks normalBlock) (length d) (length room) t (drop at d) (drop-bytes at d h) in
       let same = eqb-true (w .read .next) (w .read .place) (tests .0) in
       let x : Whole d (w .read) (all .run) = run-whole t d (w .read) (all .run) p
       (omega (arith, same, k .next, run-place t d (w .read) (all .run) p, i .0, i .1, length-drop at d)) in
@@ -145,7 +146,7 @@ module _ (t : Scene) (d : List ℕ) (at : ℕ) (room : List ℕ) (h : Bytes d) (
           absurd
           (eqb-false (w .read .refusal) 12 (not-true (eqb (w .read .refusal) 12) (tests .1))
           (counted t d room w out all q .refusal
-          ∙ written-short-room blocks (normalBytes blocks) (length d) (length room) t (drop at d) (eqb-false (all .needed) 0 z) .0))
+          ∙ written-short-room blocks (normalBytes blocks normalBlock) (length d) (length room) t (drop at d) (eqb-false (all .needed) 0 z) .0))
 
   -- The blocks before what stopped the run, read again.
   pub rewritten-twice : (c : BlocksAt) → answered c ≡ toldOf t (length d) 0 0 (runMost blocks (w .read .blocks) t (drop at d))
@@ -154,25 +155,25 @@ module _ (t : Scene) (d : List ℕ) (at : ℕ) (room : List ℕ) (h : Bytes d) (
   rewritten-twice c p =
       let k : Counted d (w .read) all = counted t d room w out all q in
       let p′ = p ∙ ap (toldOf t (length d) 0 0)
-      (ap (λ (n : ℕ). runMost blocks n t (drop at d)) (k .blocks) ∙ written-again blocks (normalBytes blocks) (length d) (length room) t (drop at d)) in
+      (ap (λ (n : ℕ). runMost blocks n t (drop at d)) (k .blocks) ∙ written-again blocks (normalBytes blocks normalBlock) (length d) (length room) t (drop at d)) in
       let x : Whole d c (readOf (all .run)) = run-whole t d c (readOf (all .run)) p′ refl in
       rewritten-all c (x .scene) (run-blocks t d c (readOf (all .run)) p′) (x .messages) (run-next t d c (readOf (all .run)) p′)
 
 -- ---- a block in normal form at a place
 
 module _ (t : Scene) (d : List ℕ) (at : ℕ) (room : List ℕ) where
-  by-item : (r : Reply Scene (Item Block Block)) → itemAt blocks t d at ≡ r → normalAt blocks t d at room ≡ normalOf blocks t d (r .scene) room (r .answer)
+  by-item : (r : Reply Scene (Item Block Block)) → itemAt blocks t d at ≡ r → normalAt blocks normalBlock t d at room ≡ normalOf blocks normalBlock t d (r .scene) room (r .answer)
   unfolding normalAt
-  by-item r e = ap (λ (x : Reply Scene (Item Block Block)). normalOf blocks t d (x .scene) room (x .answer)) e
+  by-item r e = ap (λ (x : Reply Scene (Item Block Block)). normalOf blocks normalBlock t d (x .scene) room (x .answer)) e
 
-  pub normal-wrong : inRange t ≡ false → normalAt blocks t d at room ≡ written (reply t (refusal 14 0)) room
+  pub normal-wrong : inRange t ≡ false → normalAt blocks normalBlock t d at room ≡ written (reply t (refusal 14 0)) room
   normal-wrong e = by-item (reply t (refusal 14 0)) (item-wrong blocks t d at e)
 
   module _ (g : inRange t ≡ true) where
-    pub normal-end : at ≡ length d → normalAt blocks t d at room ≡ written (reply t atEnd) room
+    pub normal-end : at ≡ length d → normalAt blocks normalBlock t d at room ≡ written (reply t atEnd) room
     normal-end e = by-item (reply t atEnd) (item-end blocks t d at g e)
 
-    pub normal-past : length d < at → normalAt blocks t d at room ≡ written (reply t (refusal 5 at)) room
+    pub normal-past : length d < at → normalAt blocks normalBlock t d at room ≡ written (reply t (refusal 5 at)) room
     normal-past e = by-item (reply t (refusal 5 at)) (item-past blocks t d at g e)
 
 -- A run of one block that fits the room.
@@ -194,20 +195,20 @@ module _ (t : Scene) (d : List ℕ) (at : ℕ) (room : List ℕ) (h : Bytes d) (
   some-left : 0 < length (drop at d)
   some-left = omega (arith, length-drop at d)
 
-  one-written : (v : Block) (rest : List ℕ) → readBlock t (drop at d) ≡ found v rest → length (normalBytes blocks t v) ≤ length room
-      → writtenBlocks 1 (length room) t (drop at d) ≡ oneWritten (after blocks t v) v rest (normalBytes blocks t v)
+  one-written : (v : Block) (rest : List ℕ) → readBlock t (drop at d) ≡ found v rest → length (normalBytes blocks normalBlock t v) ≤ length room
+      → writtenBlocks 1 (length room) t (drop at d) ≡ oneWritten (after blocks t v) v rest (normalBytes blocks normalBlock t v)
   unfolding writeMost
   one-written v rest e k =
-      written-found blocks (normalBytes blocks) 0 (length room) t (drop at d) v rest e some-left k
-      ∙ ap (oneWritten (after blocks t v) v rest) (append-nil (normalBytes blocks t v))
+      written-found blocks (normalBytes blocks normalBlock) 0 (length room) t (drop at d) v rest e some-left k
+      ∙ ap (oneWritten (after blocks t v) v rest) (append-nil (normalBytes blocks normalBlock t v))
 
-  one-short : (v : Block) (rest : List ℕ) → readBlock t (drop at d) ≡ found v rest → length room < length (normalBytes blocks t v)
-      → writtenBlocks 1 (length room) t (drop at d) ≡ roomless t (drop at d) (length (normalBytes blocks t v))
-  one-short v rest e k = written-roomless blocks (normalBytes blocks) 0 (length room) t (drop at d) v rest e some-left k
+  one-short : (v : Block) (rest : List ℕ) → readBlock t (drop at d) ≡ found v rest → length room < length (normalBytes blocks normalBlock t v)
+      → writtenBlocks 1 (length room) t (drop at d) ≡ roomless t (drop at d) (length (normalBytes blocks normalBlock t v))
+  one-short v rest e k = written-roomless blocks (normalBytes blocks normalBlock) 0 (length room) t (drop at d) v rest e some-left k
 
   one-refused : (n : ℕ) (left : List ℕ) → readBlock t (drop at d) ≡ refused n left
       → writtenBlocks 1 (length room) t (drop at d) ≡ silent (stopped t (drop at d) n left)
-  one-refused n left e = written-refused blocks (normalBytes blocks) 0 (length room) t (drop at d) n left e some-left
+  one-refused n left e = written-refused blocks (normalBytes blocks normalBlock) 0 (length room) t (drop at d) n left e some-left
 
   -- A run that wrote nothing.
   nothing-written : (run : WrittenRun Scene Block) → writtenBlocks 1 (length room) t (drop at d) ≡ run → run .bytes ≡ []
@@ -220,28 +221,28 @@ module _ (t : Scene) (d : List ℕ) (at : ℕ) (room : List ℕ) (h : Bytes d) (
       let held = room-written t d room w out run o (omega (arith, ap length none)) ∙ ap (λ (bs : List ℕ). bs ++ drop (length bs) room) none in
       λ i. refusedReply t (k .refusal i) (place i) (held i)
 
-  pub normal-refused : w .read .refusal ≢ 0 → refusedReply t (w .read .refusal) (w .read .place) out ≡ normalAt blocks t d at room
-  normal-refused z = go (normalises blocks GoodBlock block-lawful t d at room h g l)
+  pub normal-refused : w .read .refusal ≢ 0 → refusedReply t (w .read .refusal) (w .read .place) out ≡ normalAt blocks normalBlock t d at room
+  normal-refused z = go (normalises blocks GoodBlock block-lawful normalBlock t d at room h g l)
     where
-      go : {x : Written Scene Normalised} → Normalises blocks t d at room x → refusedReply t (w .read .refusal) (w .read .place) out ≡ x
+      go : {x : Written Scene Normalised} → Normalises blocks normalBlock t d at room x → refusedReply t (w .read .refusal) (w .read .place) out ≡ x
       go (callWritten {v} {rest} e k) =
-          let run = oneWritten (after blocks t v) v rest (normalBytes blocks t v) in
+          let run = oneWritten (after blocks t v) v rest (normalBytes blocks normalBlock t v) in
           absurd (z (counted t d room w out run (one-of run (one-written v rest e k)) .refusal))
       go (callShort {v} {rest} e k) =
-          let size = length (normalBytes blocks t v) in
+          let size = length (normalBytes blocks normalBlock t v) in
           nothing-written (roomless t (drop at d) size) (one-short v rest e k) refl size
           (ap (placeOf d (roomless t (drop at d) size)) (ne-eqb size 0 (λ y. omega arith)))
       go (callRefused {k = n} {left} e) =
           nothing-written (silent (stopped t (drop at d) n left)) (one-refused n left e) refl (placeIn d left) refl
 
   pub normal-written : w .read .refusal ≡ 0
-      → normalReply (sceneOf (w .read .scene)) (w .written) (w .read .next) out ≡ normalAt blocks t d at room
-  normal-written z = go (normalises blocks GoodBlock block-lawful t d at room h g l)
+      → normalReply (sceneOf (w .read .scene)) (w .written) (w .read .next) out ≡ normalAt blocks normalBlock t d at room
+  normal-written z = go (normalises blocks GoodBlock block-lawful normalBlock t d at room h g l)
     where
-      go : {x : Written Scene Normalised} → Normalises blocks t d at room x
+      go : {x : Written Scene Normalised} → Normalises blocks normalBlock t d at room x
           → normalReply (sceneOf (w .read .scene)) (w .written) (w .read .next) out ≡ x
       go (callWritten {v} {rest} e k) =
-          let run = oneWritten (after blocks t v) v rest (normalBytes blocks t v) in
+          let run = oneWritten (after blocks t v) v rest (normalBytes blocks normalBlock t v) in
           let o = one-of run (one-written v rest e k) in
           let n : Counted d (w .read) run = counted t d room w out run o in
           let x : Whole d (w .read) (run .run) = run-whole t d (w .read) (run .run) (enough-told t d room w out run o refl) refl in
@@ -249,7 +250,7 @@ module _ (t : Scene) (d : List ℕ) (at : ℕ) (room : List ℕ) (h : Bytes d) (
           let held = room-written t d room w out run o k in
           λ i. normalReply (x .scene i) (size i) (n .next i) (held i)
       go (callShort {v} {rest} e k) =
-          let run : WrittenRun Scene Block = roomless t (drop at d) (length (normalBytes blocks t v)) in
+          let run : WrittenRun Scene Block = roomless t (drop at d) (length (normalBytes blocks normalBlock t v)) in
           let f : ⊥ = omega (arith, z, counted t d room w out run (one-of run (one-short v rest e k)) .refusal) in
           absurd f
       go (callRefused {k = n} {left} e) =

@@ -12,20 +12,22 @@ use borrow.Author.Tests.{ltb-true, ltb-false}
 use lib.Dec.{ltb}
 use lib.ListN.{length, take, drop}
 use lib.Seq.{take-append-seam, drop-append-seam}
-use Rattle.dem.specs.Bytes.{Bytes, Result, found, refused}
+use Rattle.format.specs.Bytes.{Bytes, Result, found, refused}
 use Rattle.dem.specs.Scene.{Scene, fresh, inRange}
 use Rattle.dem.specs.Recording.{blocks, Recording, Reading, readRecording, fillRecording, readingOf, reading, Accepted, sceneAfter, normalForm}
-use Rattle.dem.specs.Recording.{placeIn}
-use Rattle.dem.specs.Answer.{Answer, result, refusal, Reply, reply, Written, written, Normalised, wholeNormal}
+use Rattle.dem.specs.Recording.{normalBlock}
+use Rattle.format.specs.Answer.{placeIn, Answer, result, refusal, Reply, reply, Written, written, Normalised}
+use Rattle.dem.specs.Answer.{wholeNormal}
 use Rattle.dem.specs.WellFormed.{GoodBlock}
-use Rattle.dem.proofs.ResultLaws.{clash}
+use Rattle.format.proofs.ResultLaws.{clash}
 use Rattle.dem.proofs.BlockLaws.{block-lawful}
 use Rattle.dem.proofs.RangeLaws.{fresh-range, block-range}
 use Rattle.dem.proofs.RecordingLaws.{NormalForm, normal-form}
-use Rattle.dem.proofs.AnswerLaws.{normal-accepted, normal-refused, room-enough, room-short}
-use Rattle.dem.proofs.NormalCallLaws.{WroteItem, normal-end-told, normal-refusal-told, normal-found-told, AllWritten, NoneWritten, written-end}
-use Rattle.dem.proofs.NormalCallLaws.{none-written, written-first, none-behind, NormalWritten, NormalUnwritten, normal-written, normal-unwritten}
-use Rattle.dem.proofs.NormalCallLaws.{normal-track-within, normal-no-track}
+use Rattle.format.proofs.AnswerLaws.{room-enough, room-short}
+use Rattle.dem.proofs.AnswerLaws.{normal-accepted, normal-refused}
+use Rattle.format.proofs.NormalCallLaws.{WroteItem, normal-end-told, normal-refusal-told, normal-found-told, AllWritten, NoneWritten, written-end}
+use Rattle.format.proofs.NormalCallLaws.{none-written, written-first, none-behind}
+use Rattle.dem.proofs.NormalCallLaws.{NormalWritten, NormalUnwritten, normal-written, normal-unwritten, normal-track-within, normal-no-track}
 use Rattle.scene.specs.declared.Scene.{Scene as Held}
 use Rattle.scene.specs.Views.{sceneOf}
 use Rattle.cobbrundle.specs.Replies.{countOf, writtenOf}
@@ -159,33 +161,33 @@ pub record ByBlocks (r room : List ℕ) (y : Held) (n : ℕ) (out : List ℕ) (o
 module _ (r : List ℕ) (h : Bytes r) where
   -- What the calls say of the blocks from a place on.
   abbrev FormsTold : Outcome → Held → ℕ → List ℕ → Held → ℕ → List ℕ → Type 0
-  FormsTold toEnd x at room y n out = AllWritten blocks (sceneOf x) (drop at r) room (sceneOf y) n out
-  FormsTold toRefusal x at room y n out = NoneWritten blocks (sceneOf x) (drop at r) room
+  FormsTold toEnd x at room y n out = AllWritten blocks normalBlock (sceneOf x) (drop at r) room (sceneOf y) n out
+  FormsTold toRefusal x at room y n out = NoneWritten blocks normalBlock (sceneOf x) (drop at r) room
 
   module _ (x y : Held) (at size next : ℕ) (room mid : List ℕ) (e : WritesBlock x r at room (N.Written size next) y mid) where
     abbrev form : Normalised
     form = record { length = size; next = next }
 
-    pub wrote-one : WroteItem blocks GoodBlock (sceneOf x) r at room (sceneOf y) form mid
-    wrote-one = normal-found-told blocks (sceneOf x) r at room (sceneOf y) mid GoodBlock block-lawful h form (sym e)
+    pub wrote-one : WroteItem blocks normalBlock GoodBlock (sceneOf x) r at room (sceneOf y) form mid
+    wrote-one = normal-found-told blocks normalBlock (sceneOf x) r at room (sceneOf y) mid GoodBlock block-lawful h form (sym e)
 
     one-range : inRange (sceneOf x) ≡ true → inRange (sceneOf y) ≡ true
     one-range i = ap inRange (wrote-one .found .after) ∙ block-range (sceneOf x) (wrote-one .item) (wrote-one .found .good) i
 
     form-led : (o : Outcome) (z : Held) (n : ℕ) (out : List ℕ) → FormsTold o y next (drop size mid) z n out
         → FormsTold o x at room z (size + n) (take size mid ++ out)
-    form-led toEnd z n out k = written-first blocks (sceneOf x) r at room GoodBlock block-lawful h (sceneOf y) form mid wrote-one (sceneOf z) n out k
-    form-led toRefusal z n out k = none-behind blocks (sceneOf x) r at room GoodBlock block-lawful h (sceneOf y) form mid wrote-one k
+    form-led toEnd z n out k = written-first blocks normalBlock (sceneOf x) r at room GoodBlock block-lawful h (sceneOf y) form mid wrote-one (sceneOf z) n out k
+    form-led toRefusal z n out k = none-behind blocks normalBlock (sceneOf x) r at room GoodBlock block-lawful h (sceneOf y) form mid wrote-one k
 
   forms-told : {x y : Held} {at n : ℕ} {room out : List ℕ} {o : Outcome} → NormalCalls r x at room y n out o → inRange (sceneOf x) ≡ true
       → at ≤ length r → FormsTold o x at room y n out
   forms-told (noForm {x} {y} {at} {room} {out} e) i l =
-      let k = normal-end-told blocks (sceneOf x) r at room (sceneOf y) out (sym e) in
-      subst₂ (λ (u : Scene) (z : List ℕ). AllWritten blocks (sceneOf x) (drop at r) room u 0 z) (sym (k .1)) (sym (k .2))
-      (written-end blocks (sceneOf x) r at room (k .0))
+      let k = normal-end-told blocks normalBlock (sceneOf x) r at room (sceneOf y) out (sym e) in
+      subst₂ (λ (u : Scene) (z : List ℕ). AllWritten blocks normalBlock (sceneOf x) (drop at r) room u 0 z) (sym (k .1)) (sym (k .2))
+      (written-end blocks normalBlock (sceneOf x) r at room (k .0))
   forms-told (formRefused {x} {y} {at} {n} {p} {room} {out} e) i l =
-      none-written blocks (sceneOf x) r at room GoodBlock block-lawful h
-      (normal-refusal-told blocks (sceneOf x) r at room (sceneOf y) out i l n p (sym e))
+      none-written blocks normalBlock (sceneOf x) r at room GoodBlock block-lawful h
+      (normal-refusal-told blocks normalBlock (sceneOf x) r at room (sceneOf y) out i l n p (sym e))
   forms-told (nextForm {x} {y} {z} {at} {size} {next} {n} {room} {mid} {out} {o} e w) i l =
       form-led x y at size next room mid e o z n out
       (forms-told w (one-range x y at size next room mid e i) (wrote-one x y at size next room mid e .found .within))
@@ -224,7 +226,7 @@ module _ (r : List ℕ) (h : Bytes r) where
         go toEnd k =
             came-through y (size + n) (take size mid ++ out)
             (normal-written r room h line mid (sym e) (sceneOf y) n out
-            (subst (λ (v : Scene). AllWritten blocks v (drop next r) (drop size mid) (sceneOf y) n out) f k))
+            (subst (λ (v : Scene). AllWritten blocks normalBlock v (drop next r) (drop size mid) (sceneOf y) n out) f k))
         go toRefusal k =
             came-short y (size + n) (take size mid ++ out)
-            (normal-unwritten r room h line mid (sym e) (subst (λ (v : Scene). NoneWritten blocks v (drop next r) (drop size mid)) f k))
+            (normal-unwritten r room h line mid (sym e) (subst (λ (v : Scene). NoneWritten blocks normalBlock v (drop next r) (drop size mid)) f k))

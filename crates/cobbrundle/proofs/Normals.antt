@@ -14,22 +14,23 @@ use lib.Seq.{sets, length-sets}
 use mir.Syntax.{w16}
 use mir.Val.{toZ, ofZ, SFits}
 use mir.ValLaws.{toZ-ofZ}
-use Rattle.dem.specs.Bytes.{Bytes, mapResult}
+use Rattle.format.specs.Bytes.{Bytes, mapResult}
 use Rattle.dem.specs.Scene.{Scene, fresh}
-use Rattle.dem.specs.Codec.{Run, WrittenRun, normalBytes}
+use Rattle.format.specs.Codec.{Run, WrittenRun, normalBytes}
 use Rattle.dem.specs.Track.{TrackLine, readTrack, trackNumber, normalTrack, writeTrack}
-use Rattle.dem.specs.Recording.{Block, blocks}
-use Rattle.dem.specs.Answer.{result, refusal, reply, written, intoRoom, trackNormal, wholeNormal}
+use Rattle.dem.specs.Recording.{Block, blocks, normalBlock}
+use Rattle.format.specs.Answer.{result, refusal, reply, written, intoRoom}
+use Rattle.dem.specs.Answer.{trackNormal, wholeNormal}
 use Rattle.dem.specs.WellFormed.{GoodBlock}
-use Rattle.dem.proofs.ByteLaws.{drop-bytes}
-use Rattle.dem.proofs.ListLaws.{sets-append, sets-front}
+use Rattle.format.proofs.ByteLaws.{drop-bytes}
+use Rattle.format.proofs.ListLaws.{sets-append, sets-front}
 use Rattle.dem.proofs.TrackLaws.{TrackRead, track-sound, track-normal}
-use Rattle.dem.proofs.BlockLaws.{block-lawful}
-use Rattle.dem.proofs.RunLaws.{run-left}
-use Rattle.dem.proofs.WrittenLaws.{written-room, written-enough, written-short}
-use Rattle.dem.proofs.AnswerLaws.{place-drop, room-enough, room-short}
-use Rattle.dem.proofs.RewritingLaws.{writtenBlocks, wholeWritten, whole-written-accepted, whole-written-refused, whole-normal-by-run, whole-normal-by-track}
-use Rattle.dem.proofs.RewritingLaws.{track-normal-at, track-normal-refused}
+use Rattle.dem.proofs.BlockLaws.{block-lawful, block-normalises}
+use Rattle.format.proofs.RunLaws.{run-left}
+use Rattle.format.proofs.WrittenLaws.{written-room, written-enough, written-short}
+use Rattle.format.proofs.AnswerLaws.{place-drop, room-enough, room-short}
+use Rattle.dem.proofs.RewritingLaws.{writtenBlocks, wholeWritten, whole-written-accepted, whole-written-refused, whole-normal-by-run}
+use Rattle.dem.proofs.RewritingLaws.{whole-normal-by-track, track-normal-at, track-normal-refused}
 use Rattle.heads.specs.Tracks.{trackOf as lineOf}
 use Rattle.heads.specs.declared.TrackAt.{TrackAt}
 use Rattle.heads.proofs.NormalLaws.{number-range}
@@ -110,7 +111,7 @@ module _ (s : List ℕ) (h : Bytes s) (t : TrackAt) (q : lineOf s t ≡ mapResul
       rest-short = omega (arith, length-drop (t .at) s)
 
       none-needed : counted .needed ≡ 0
-      none-needed = written-enough blocks GoodBlock block-lawful (length s) any fresh (drop (t .at) s) rest-bytes rest-short .0
+      none-needed = written-enough blocks GoodBlock block-lawful normalBlock block-normalises (length s) any fresh (drop (t .at) s) rest-bytes rest-short .0
 
       by-counted : (room : List ℕ) → wholeNormal s room ≡ wholeWritten s line counted room
       by-counted = whole-normal-by-run s (length s) any h (le-refl (length s)) line (drop (t .at) s) (track-found s t q z .1) rest-short
@@ -138,7 +139,7 @@ module _ (s : List ℕ) (h : Bytes s) (t : TrackAt) (q : lineOf s t ≡ mapResul
         -- A normal form is no longer than the recording.
         pub counted-short : length (lineBytes t) + w .written ≤ length s
         counted-short =
-            omega (arith, counted-size, line-short, written-short blocks GoodBlock block-lawful (length s) any fresh (drop (t .at) s) rest-bytes)
+            omega (arith, counted-size, line-short, written-short blocks GoodBlock block-lawful normalBlock block-normalises (length s) any fresh (drop (t .at) s) rest-bytes)
 
         pub blocks-wrong : w .read .refusal ≢ 0 → wholeNormal s room ≡ written (reply fresh (refusal (w .read .refusal) (w .read .place))) out
         blocks-wrong n =
@@ -183,7 +184,7 @@ module _ (s : List ℕ) (h : Bytes s) (t : TrackAt) (q : lineOf s t ≡ mapResul
             stores = le-leb (w .written) (length mid - size) (omega (arith, ap length front, length-sets room 0 (lineBytes t), ap length counted-room))
 
             same-run : writtenBlocks (length s) (w .written) fresh (drop (t .at) s) ≡ counted
-            same-run = written-room blocks (normalBytes blocks) (length s) any (w .written) fresh (drop (t .at) s) (omega (arith, counted-size)) none-needed
+            same-run = written-room blocks (normalBytes blocks normalBlock) (length s) any (w .written) fresh (drop (t .at) s) (omega (arith, counted-size)) none-needed
 
             again : wrote v out′ ≡ wroteOf fresh (length s) true size 0 0 0 mid counted
             again = p′ ∙ ap₂ (λ (x : Bool) (y : WrittenRun Scene Block). wroteOf fresh (length s) x size 0 0 0 mid y) stores same-run
@@ -194,7 +195,7 @@ module _ (s : List ℕ) (h : Bytes s) (t : TrackAt) (q : lineOf s t ≡ mapResul
               where
                 left : length (counted .run .left) ≡ length (counted .run .rest)
                 left =
-                    let e = written-enough blocks GoodBlock block-lawful (length s) any fresh (drop (t .at) s) rest-bytes rest-short .1 in
+                    let e = written-enough blocks GoodBlock block-lawful normalBlock block-normalises (length s) any fresh (drop (t .at) s) rest-bytes rest-short .1 in
                     ap (λ (r : Run Scene Block). length (r .left)) e
                     ∙ ap length (run-left blocks GoodBlock block-lawful (length s) fresh (drop (t .at) s) rest-bytes (sym (ap (λ (r : Run Scene Block). r .refusal) e) ∙ none-refused))
                     ∙ sym (ap (λ (r : Run Scene Block). length (r .rest)) e)

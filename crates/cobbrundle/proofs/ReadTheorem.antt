@@ -16,23 +16,25 @@ use mir.Val.{Val, ofZ}
 use denote.Laws.{Is}
 use denote.Struct.Declared.{row}
 use Rattle.dem.specs.Limits.{headSize}
-use Rattle.dem.specs.Bytes.{Bytes, found, refused, mapResult}
+use Rattle.format.specs.Bytes.{Bytes, found, refused, mapResult}
 use Rattle.dem.specs.Scene.{Scene as Described, fresh, inRange}
 use Rattle.dem.specs.Message.{Message as Values, fill, apply}
-use Rattle.dem.specs.Codec.{after, readAll, fillAll, applyAll}
+use Rattle.format.specs.Codec.{after, readAll, fillAll, applyAll}
 use Rattle.dem.specs.Track.{TrackLine, readTrack, trackNumber}
-use Rattle.dem.specs.Recording.{writeMessage, messages, Block, writeBlock, fillBlock, applyBlock, blocks, Recording, recordingOf}
-use Rattle.dem.specs.Recording.{Reading, reading, sceneAfter}
+use Rattle.dem.specs.Recording.{writeMessage, messages, Block, writeBlock, fillBlock, applyBlock, blocks, Recording, recordingOf, Reading, reading}
+use Rattle.dem.specs.Recording.{sceneAfter}
 use Rattle.dem.specs.WellFormed.{GoodMessage, GoodBlock, WellFormed}
-use Rattle.dem.specs.Answer.{result, reply, Item, Outline as Told, outlineOf as toldOf, blockAt, writeSent}
-use Rattle.dem.proofs.ResultLaws.{clash}
-use Rattle.dem.proofs.ByteLaws.{drop-bytes, take-bytes}
-use Rattle.dem.proofs.CodecLaws.{afterAll, all-complete}
+use Rattle.format.specs.Answer.{result, reply, Item}
+use Rattle.dem.specs.Answer.{Outline as Told, outlineOf as toldOf, blockAt, writeSent}
+use Rattle.format.proofs.ResultLaws.{clash}
+use Rattle.format.proofs.ByteLaws.{drop-bytes, take-bytes}
+use Rattle.format.proofs.CodecLaws.{afterAll}
+use Rattle.format.proofs.ReadLaws.{all-complete}
 use Rattle.dem.proofs.BlockLaws.{message-lawful, block-lawful}
 use Rattle.dem.proofs.RangeLaws.{message-range, fresh-range, block-range}
 use Rattle.dem.proofs.RecordingLaws.{accepted-exactly}
 use Rattle.dem.proofs.SceneLaws.{Shaped, fresh-shaped, apply-shaped, block-shaped, AfterMessage, message-does}
-use Rattle.dem.proofs.CallLaws.{FoundItem, taken, end-told, refusal-told, found-told, all-end, all-refused, all-found}
+use Rattle.format.proofs.CallLaws.{FoundItem, taken, end-told, refusal-told, found-told, all-end, all-refused, all-found}
 use Rattle.dem.proofs.CallLaws.{outline-end, outline-refused, outline-found, block-body, track-told, track-refusal-told, recording-blocks}
 use Rattle.dem.proofs.CallLaws.{reading-found, reading-refused, reading-no-track}
 use Rattle.scene.specs.declared.Scene.{Scene}

@@ -11,22 +11,23 @@ use borrow.Author.Tests.{eq-eqb, ne-eqb, eqb-true, lt-ltb, le-ltb}
 use lib.Dec.{eqb, ltb}
 use lib.ListN.{length, take, drop, getD, length-drop}
 use lib.Seq.{drop-cons}
-use Rattle.dem.specs.Bytes.{Bytes, Result, found, refused, mapResult, bind}
-use Rattle.dem.specs.Layout.{Value, number}
-use Rattle.dem.specs.Scene.{Scene, inRange}
+use Rattle.format.specs.Bytes.{Bytes, Result, found, refused, mapResult, bind}
+use Rattle.format.specs.Layout.{Value, number}
+use Rattle.dem.specs.Scene.{Scene, inRange, fresh}
 use Rattle.dem.specs.Message.{Message}
-use Rattle.dem.specs.Codec.{after, readAll, Run, stopped, preceded, runOn, runMost}
+use Rattle.format.specs.Codec.{after, readAll, Run, stopped, preceded, runMost, readBefore, writeMost}
+use Rattle.format.proofs.RunLaws.{runOn, run-step, run-again, run-left, run-within}
 use Rattle.dem.specs.Track.{TrackLine, readTrack, trackNumber}
-use Rattle.dem.specs.Recording.{messages, Block, blockOf, readBefore, readBody, readBlock, blocks, placeIn}
-use Rattle.dem.specs.Scene.{fresh}
-use Rattle.dem.specs.Answer.{Answer, Item, Reply, Outline, Progress, itemOf, outlineOf, whole, result, refusal, reply, countMessages, outlineAt, progressOf, blocksAt, trackOf, trackAt}
+use Rattle.format.specs.Answer.{placeIn, Answer, Item, Reply, Progress, itemOf, result, refusal, reply, runAt}
+use Rattle.dem.specs.Recording.{messages, Block, blockOf, readBody, readBlock, blocks}
+use Rattle.dem.specs.Answer.{Outline, outlineOf, whole, countMessages, outlineAt, progressOf, blocksAt, trackOf, trackAt}
 use Rattle.dem.specs.WellFormed.{GoodBlock}
-use Rattle.dem.proofs.ResultLaws.{clash, bind-found, Ranged}
-use Rattle.dem.proofs.ByteLaws.{drop-bytes}
-use Rattle.dem.proofs.CodecLaws.{Lawful, Taken, shrinks}
-use Rattle.dem.proofs.RunLaws.{readOf, run-again, run-left, run-within}
+use Rattle.format.proofs.ResultLaws.{clash, bind-found, Ranged}
+use Rattle.format.proofs.ByteLaws.{drop-bytes}
+use Rattle.format.proofs.CodecLaws.{Lawful, Taken, shrinks}
+use Rattle.format.proofs.WrittenLaws.{readOf}
 use Rattle.dem.proofs.BlockLaws.{block-lawful}
-use Rattle.dem.proofs.AnswerLaws.{item-at, place-drop}
+use Rattle.format.proofs.AnswerLaws.{item-at, place-drop}
 use Rattle.heads.specs.Heads.{headIn, headOf}
 use Rattle.heads.specs.Tracks.{trackOf as lineOf}
 use Rattle.heads.specs.declared.HeadAt.{HeadAt}
@@ -36,6 +37,7 @@ use Rattle.scene.specs.Views.{sceneOf}
 use Rattle.blocks.specs.Runs.{Told, refusedIn, countedOf, toldOf, answered}
 use Rattle.blocks.specs.declared.BlocksAt.{BlocksAt}
 use Rattle.dem.proofs.PieceLaws.{summary, wholeRun, whole-by-run, whole-by-track}
+use Rattle.dem.proofs.RefusalLaws.{listed}
 
 -- ---- a track line
 
@@ -148,9 +150,10 @@ module _ (given : Scene) (input : List ℕ) (b : BlocksAt) (r : Run Scene Block)
 module _ (t : Scene) (d : List ℕ) (at : ℕ) (in? : at < length d) where
   -- At most one block.
   pub one-block : runMost blocks 1 t (drop at d) ≡ runOn t (drop at d) (readBlock t (drop at d)) (λ v rest. stopped (after blocks t v) rest 0 rest)
-  unfolding runMost
+  unfolding writeMost
   one-block =
       ap (runMost blocks 1 t) e
+      ∙ run-step blocks 0 t (getD d at 0) (drop (suc at) d)
       ∙ ap (λ (bs : List ℕ). runOn t bs (readBlock t bs) (λ v rest. stopped (after blocks t v) rest 0 rest)) (sym e)
     where
       e : drop at d ≡ getD d at 0 ∷ drop (suc at) d
@@ -182,17 +185,17 @@ module _ (t : Scene) (d : List ℕ) (at : ℕ) (in? : at < length d) where
 -- ---- blocks from a place on
 
 pub blocks-wrong : (t : Scene) (d : List ℕ) (at : ℕ) → inRange t ≡ false → blocksAt t d at ≡ reply t (refusal 14 0)
-unfolding blocksAt
+unfolding runAt
 blocks-wrong t d at e = rw e
 
 pub blocks-past : (t : Scene) (d : List ℕ) (at : ℕ) → inRange t ≡ true → length d < at → blocksAt t d at ≡ reply t (refusal 5 at)
-unfolding blocksAt
+unfolding runAt
 blocks-past t d at e l = rw (e, lt-ltb (length d) at l)
 
 pub blocks-at : (t : Scene) (d : List ℕ) (at : ℕ) → inRange t ≡ true → at ≤ length d
     → blocksAt t d at
     ≡ reply (runMost blocks (length d) t (drop at d) .state) (result (progressOf d (runMost blocks (length d) t (drop at d))))
-unfolding blocksAt
+unfolding runAt
 blocks-at t d at e l = rw (e, le-ltb (length d) at l)
 
 -- ---- the entries
@@ -244,8 +247,8 @@ module _ (t : Scene) (d : List ℕ) (at : ℕ) (h : Bytes d) (g : inRange t ≡ 
             ∙ (λ i. blockReply at (sym (w .scene) i) (block-angles t d at in? a f v rest e i) (m i) (sym (run-next t d b (one (found v rest)) p) i))
         go (refused n left) e =
             let k : b .refusal ≡ n = run-refusal t d b (one (refused n left)) (run-of (refused n left) e) in
-            let r : Ranged {A = Block} (drop at d) (refused n left) =
-            subst (λ (x : Result Block). Ranged (drop at d) x) e (block-lawful .ranged t (drop at d) (drop-bytes at d h)) in
+            let r : Ranged {A = Block} listed (drop at d) (refused n left) =
+            subst (λ (x : Result Block). Ranged listed (drop at d) x) e (block-lawful .ranged t (drop at d) (drop-bytes at d h)) in
             let f : ⊥ = omega (arith, r .0, k, z) in
             absurd f
 

@@ -6,15 +6,16 @@ use mathlib.Core.List.{List, _++_}
 use Prim.Native.Nat.{ℕ, _-_, _≤_}
 use native.Mathlib.Omega.{arith}
 use lib.ListN.{length, take, drop}
-use Rattle.dem.specs.Bytes.{Bytes, Result, found, refused}
+use Rattle.format.specs.Bytes.{Bytes, Result, found, refused}
 use Rattle.dem.specs.Scene.{Scene as Described}
 use Rattle.dem.specs.Message.{Message as Values, fill, apply}
 use Rattle.dem.specs.WellFormed.{GoodMessage, WellFormed}
-use Rattle.dem.specs.Recording.{writeMessage, messages, placeIn, Recording, readRecording, fillRecording, sceneAfter, readingOf, reading}
-use Rattle.dem.specs.Answer.{Answer, result, refusal, Reply, reply, Item, Written, messageAt, writeSent, Summary, summaryOf, wholeOf, whole}
-use Rattle.dem.proofs.ResultLaws.{clash}
-use Rattle.dem.proofs.ByteLaws.{drop-bytes}
-use Rattle.dem.proofs.CodecLaws.{Taken}
+use Rattle.format.specs.Answer.{placeIn, Answer, result, refusal, Reply, reply, Item, Written}
+use Rattle.dem.specs.Recording.{writeMessage, messages, Recording, readRecording, fillRecording, sceneAfter, readingOf, reading}
+use Rattle.dem.specs.Answer.{messageAt, writeSent, Summary, summaryOf, wholeOf, whole}
+use Rattle.format.proofs.ResultLaws.{clash}
+use Rattle.format.proofs.ByteLaws.{drop-bytes}
+use Rattle.format.proofs.CodecLaws.{Taken}
 use Rattle.dem.proofs.BlockLaws.{message-lawful}
 use Rattle.dem.proofs.RecordingLaws.{accepted-exactly}
 use Rattle.dem.proofs.AnswerLaws.{whole-accepted}

@@ -8,12 +8,13 @@ use Prim.Native.Nat.{ℕ, _+_, _<_, _≤_}
 use borrow.Author.Tests.{lt-ltb, le-ltb, le-leb}
 use lib.Dec.{ltb, leb}
 use lib.ListN.{length, drop}
-use Rattle.dem.specs.Layout.{print, allows}
+use Rattle.format.specs.Layout.{print, allows}
 use Rattle.dem.specs.Scene.{Scene, Context, inRange}
 use Rattle.dem.specs.Message.{Message, layout, layoutIn, fill, apply}
 use Rattle.dem.specs.Recording.{writeMessage}
-use Rattle.dem.specs.Answer.{result, refusal, reply, Written, written, writeSent}
-use Rattle.dem.proofs.LayoutLaws.{Allowed, allows→}
+use Rattle.format.specs.Answer.{result, refusal, reply, Written, written, writeItem}
+use Rattle.dem.specs.Answer.{writeSent}
+use Rattle.format.proofs.LayoutLaws.{Allowed, allows→}
 use Rattle.wire.specs.declared.Text.{Text}
 use Rattle.wire.specs.Cursors.{textIn, placed}
 use Rattle.message.specs.declared.Message.{Message as Sent}
@@ -61,7 +62,7 @@ module _ (s : Scene) (m : Message) (room : List ℕ) where
 
   chosen-is : (bad ended wrong short : Bool) → not (inRange s) ≡ bad → s .ended ≡ ended → not (allows (layoutIn s) m) ≡ wrong
       → ltb (length room) (length bytes) ≡ short → writeSent s m room ≡ chosen bad ended wrong short
-  unfolding writeSent chosen writeMessage apply
+  unfolding writeItem chosen writeMessage apply
   chosen-is bad ended wrong short p q r t = rw (p, q, r, t)
 
   pub write-wrong : inRange s ≡ false → writeSent s m room ≡ written (reply s (refusal 14 0)) room

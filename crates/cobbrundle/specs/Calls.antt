@@ -8,8 +8,9 @@ use lib.IntN.{ℤ}
 use lib.ListN.{take, drop}
 use Rattle.dem.specs.Scene.{fresh}
 use Rattle.dem.specs.Message.{Message as Values}
-use Rattle.dem.specs.Recording.{Block, blockOf, blocks, Reading}
-use Rattle.dem.specs.Answer.{messageAt, outlineAt, trackAt, normalAt, trackNormal}
+use Rattle.dem.specs.Recording.{Block, blockOf, blocks, Reading, normalBlock}
+use Rattle.format.specs.Answer.{normalAt}
+use Rattle.dem.specs.Answer.{messageAt, outlineAt, trackAt, trackNormal}
 use Rattle.message.specs.Places.{valuesTo}
 use Rattle.message.specs.declared.Message.{Message}
 use Rattle.message.specs.Values.{valuesOf}
@@ -137,7 +138,7 @@ BlocksTile = Tiles (λ (b : BlockCall). b .place) (λ (b : BlockCall). b .outlin
 
 -- `normal_block_at`, called in the scene x on a recording at a place, with room, answers a, hands back the scene y and leaves out in the room.
 abbrev pub WritesBlock : Scene → List ℕ → ℕ → List ℕ → NormalAnswer → Scene → List ℕ → Type 0
-WritesBlock x s at room a y out = normalReplyOf (record { answer = a; scene = y }) out ≡ normalAt blocks (sceneOf x) s at room
+WritesBlock x s at room a y out = normalReplyOf (record { answer = a; scene = y }) out ≡ normalAt blocks normalBlock (sceneOf x) s at room
 
 -- The calls from a scene and a place on, each in the room behind what the one before wrote: the scene that the last of them handed back, how
 -- many bytes were written, what the room holds, and how they came out.

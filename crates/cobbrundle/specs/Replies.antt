@@ -1,11 +1,12 @@
 -- What the entries of the library answer, in the definitions' terms.
 use mathlib.Core.List.{List, [], _∷_}
 use Prim.Native.Nat.{ℕ}
-use Rattle.dem.specs.Layout.{number}
+use Rattle.format.specs.Layout.{number}
 use Rattle.dem.specs.Scene.{Scene as Described}
 use Rattle.dem.specs.Message.{Message as Values}
-use Rattle.dem.specs.Answer.{Answer, result, atEnd, refusal, Item, Reply, reply, Written, written, Track, Outline as Told}
-use Rattle.dem.specs.Answer.{Progress as Passed, Rewriting as Rewritten, Normalised, Summary}
+use Rattle.format.specs.Answer.{Answer, result, atEnd, refusal, Item, Reply, reply, Written, written, Progress as Passed, Rewriting as Rewritten}
+use Rattle.format.specs.Answer.{Normalised}
+use Rattle.dem.specs.Answer.{Track, Outline as Told, Summary}
 use Rattle.message.specs.Places.{valuesTo}
 use Rattle.scene.specs.Views.{sceneOf, filledBy}
 use Rattle.cobbrundle.specs.declared.MessageAnswer.{MessageAnswer}

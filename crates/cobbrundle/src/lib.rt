@@ -6,9 +6,10 @@ ghost use Prim.Native.Nat.{ℕ, _+_, _-_, _≤_};
 ghost use lib.Dec.{eqb};
 ghost use lib.ListN.{length, take, drop};
 ghost use Rattle.dem.specs.Scene.{fresh};
-ghost use Rattle.dem.specs.Codec.{normalBytes};
-ghost use Rattle.dem.specs.Recording.{writeMessage, messages, blocks as recordingBlocks};
-ghost use Rattle.dem.specs.Answer.{reply, result, intoRoom, messageAt, writeSent, trackAt, outlineAt, blocksAt, whole, normalAt, normalBlocksAt, trackNormal, wholeNormal};
+ghost use Rattle.format.specs.Codec.{normalBytes};
+ghost use Rattle.dem.specs.Recording.{writeMessage, messages, blocks as recordingBlocks, normalBlock};
+ghost use Rattle.format.specs.Answer.{reply, result, intoRoom, normalAt};
+ghost use Rattle.dem.specs.Answer.{messageAt, writeSent, trackAt, outlineAt, blocksAt, whole, normalBlocksAt, trackNormal, wholeNormal};
 ghost use Rattle.scene.specs.Views.{sceneOf, Numbered};
 ghost use Rattle.message.specs.Values.{valuesBy};
 ghost use Rattle.wire.specs.Cursors.{placed};
@@ -21,6 +22,7 @@ use blocks::WrittenAt;
 use message::Message;
 use scene::Filled;
 use scene::Scene;
+ghost use Rattle.dem.specs.Message.{normal as normalMessage};
 
 // A message as sent, its filled-in form and the place of what follows it; or "end"; or a refusal's number and place.
 pub enum MessageAnswer {
@@ -172,7 +174,7 @@ const FORM_SIZE: usize = 32;
 // The normal form of a message with a mask, and its size. Every other message is its own normal form, and its size here is 0.
 fn masked_form(scene: Scene, message: Message, form: &mut [u8]) -> usize
     requires { ⌜ 32 ≤ length (now form) ⌝ }
-    ensures { λ r. ⌜ ((t : Text → List ℕ) → Numbered message → normalBytes messages (sceneOf scene) (valuesBy t message) ≡ cond (eqb r 0) (writeMessage (sceneOf scene) (valuesBy t message)) (take r (now (form .exit)))) ⌝ }
+    ensures { λ r. ⌜ ((t : Text → List ℕ) → Numbered message → normalBytes messages normalMessage (sceneOf scene) (valuesBy t message) ≡ cond (eqb r 0) (writeMessage (sceneOf scene) (valuesBy t message)) (take r (now (form .exit)))) ⌝ }
     ensures within { λ r. ⌜ r ≤ length (now (form .exit)) ⌝ }
 {
     match message {
@@ -219,7 +221,7 @@ fn into_room(
 // The normal form of the message at a place of a block's bytes, in a scene, into lent room. With a refusal nothing is written; what is
 // behind the message stays.
 pub fn normal_message_at(scene: Scene, bytes: &[u8], at: usize, room: &mut [u8]) -> NormalReply
-    ensures { λ r. ⌜ normalReplyOf r (now (room .exit)) ≡ normalAt messages (sceneOf scene) (now (bytes .entry)) at (now (room .entry)) ⌝ }
+    ensures { λ r. ⌜ normalReplyOf r (now (room .exit)) ≡ normalAt messages normalMessage (sceneOf scene) (now (bytes .entry)) at (now (room .entry)) ⌝ }
 {
     let m = read_message_at(scene, bytes, at);
     let answer = m.answer;
@@ -511,7 +513,7 @@ pub fn normal_blocks_at(scene: Scene, bytes: &[u8], at: usize, room: &mut [u8]) 
 // The normal form of the block at a place of a recording, in a scene, into lent room. With a refusal nothing is written; what is behind the
 // normal form stays.
 pub fn normal_block_at(scene: Scene, bytes: &[u8], at: usize, room: &mut [u8]) -> NormalReply
-    ensures { λ r. ⌜ normalReplyOf r (now (room .exit)) ≡ normalAt recordingBlocks (sceneOf scene) (now (bytes .entry)) at (now (room .entry)) ⌝ }
+    ensures { λ r. ⌜ normalReplyOf r (now (room .exit)) ≡ normalAt recordingBlocks normalBlock (sceneOf scene) (now (bytes .entry)) at (now (room .entry)) ⌝ }
 {
     let rest = scene.rest;
     if !scene::in_range(rest) {

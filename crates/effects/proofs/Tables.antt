@@ -8,7 +8,7 @@ use borrow.Author.Tests.{le-leb}
 use lib.Dec.{T}
 use lib.ListN.{set, replicate}
 use Rattle.dem.specs.Kind
-use Rattle.dem.specs.Layout.{Value, number, numbers, tail}
+use Rattle.format.specs.Layout.{Value, number, numbers, tail}
 use Rattle.dem.specs.Scene.{Scene, Baseline, baselineAt}
 use Rattle.dem.specs.Message.{fillUpdate, fill, apply}
 use Rattle.dem.proofs.MessageLaws.{fill-update}

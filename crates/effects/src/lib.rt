@@ -3,7 +3,7 @@ ghost use mathlib.Core.Path.{_≡_};
 ghost use mathlib.Core.List.{List, [], _∷_, _++_};
 ghost use Prim.Native.Nat.{ℕ, _≤_, _<_};
 ghost use Rattle.dem.specs.Kind;
-ghost use Rattle.dem.specs.Layout.{Value, number};
+ghost use Rattle.format.specs.Layout.{Value, number};
 ghost use Rattle.dem.specs.Message.{apply, fill};
 ghost use Rattle.message.specs.declared.Message.{Message};
 ghost use Rattle.message.specs.Values.{lookValues, poseValues, updateValues, valuesBy};

@@ -6,14 +6,17 @@ use mathlib.Core.List.{List, []}
 use Prim.Native.Nat.{ℕ, _≤_}
 use native.Mathlib.Omega.{arith}
 use lib.ListN.{length}
-use Rattle.dem.specs.Bytes.{Bytes, Result, found, refused}
+use Rattle.format.specs.Bytes.{Bytes, Result, found, refused}
 use Rattle.dem.specs.Scene.{Scene, fresh}
 use Rattle.dem.specs.WellFormed.{WellFormed}
 use Rattle.dem.specs.Recording.{Recording, readRecording, fillRecording, sceneAfter, readingOf, reading, normalForm}
-use Rattle.dem.specs.Answer.{Reply, reply, result, Summary, whole, wholeNormal}
-use Rattle.dem.proofs.ResultLaws.{clash, readingMaximum}
+use Rattle.format.specs.Answer.{Reply, reply, result}
+use Rattle.dem.specs.Answer.{Summary, whole, wholeNormal}
+use Rattle.format.proofs.ResultLaws.{clash}
+use Rattle.dem.proofs.RefusalLaws.{readingMaximum}
 use Rattle.dem.proofs.RecordingLaws.{accepted-exactly, refusal-range, normal-form}
-use Rattle.dem.proofs.AnswerLaws.{whole-accepted, whole-refused, normal-accepted, normal-refused, room-enough}
+use Rattle.format.proofs.AnswerLaws.{room-enough}
+use Rattle.dem.proofs.AnswerLaws.{whole-accepted, whole-refused, normal-accepted, normal-refused}
 use Rattle.exports.specs.Numbers.{Checked, checkedBy, Rewritten, rewrittenBy}
 
 -- What the numbers of a check say of the recording s.

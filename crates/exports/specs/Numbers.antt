@@ -3,7 +3,8 @@ use mathlib.Core.List.{List}
 use Prim.Native.Nat.{ℕ}
 use lib.IntN.{ℤ, pos}
 use Rattle.dem.specs.Scene.{Scene}
-use Rattle.dem.specs.Answer.{Answer, result, atEnd, refusal, Summary, Written}
+use Rattle.format.specs.Answer.{Answer, result, atEnd, refusal, Written}
+use Rattle.dem.specs.Answer.{Summary}
 
 -- Of a recording that is checked: the refusal's number, 0 if it is accepted, and its place; what the recording holds.
 pub record Checked : Type 0 where

@@ -10,14 +10,14 @@ use lib.Dec.{leb, eqb}
 use lib.ListN.{length, take, drop, length-drop}
 use lib.Seq.{drop-drop, drop-at}
 use Rattle.dem.specs.Limits.{blockLimit, headSize}
-use Rattle.dem.specs.Refusal.{code, cutBlock, longBlock, afterDisconnect}
-use Rattle.dem.specs.Bytes.{Bytes, Result, found, refused, mapResult, bind, refusedAt, unless, require, free, leRead}
-use Rattle.dem.specs.Layout.{Value, Layout, parse, print}
+use Rattle.format.specs.Refusal.{code, cutBlock, longBlock, afterDisconnect}
+use Rattle.format.specs.Bytes.{Bytes, Result, found, refused, mapResult, bind, refusedAt, unless, require, free, leRead}
+use Rattle.format.specs.Layout.{Value, Layout, parse, print}
 use Rattle.dem.specs.Scene.{Scene}
 use Rattle.dem.specs.Recording.{Block, angleLayout, readBody, readSized, readBlock}
-use Rattle.dem.proofs.ResultLaws.{clash}
-use Rattle.dem.proofs.ByteLaws.{drop-bytes}
-use Rattle.dem.proofs.LayoutLaws.{Read, parse-sound}
+use Rattle.format.proofs.ResultLaws.{clash}
+use Rattle.format.proofs.ByteLaws.{drop-bytes}
+use Rattle.format.proofs.LayoutLaws.{Read, parse-sound}
 use Rattle.dem.proofs.BlockLaws.{angles-length}
 use Rattle.wire.specs.Cursors.{gotten, numberAt, parseAt}
 use Rattle.wire.specs.declared.Cursor.{Cursor}

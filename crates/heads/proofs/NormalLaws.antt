@@ -15,9 +15,9 @@ use lib.Signed.{ltZ, nonNeg}
 use mir.Syntax.{w16}
 use mir.Val.{toZ, ofZ, SFits, Fits}
 use mir.ValLaws.{toZ-ofZ, half-full}
-use Rattle.dem.specs.Bytes.{Bytes, Result, found, refused, mapResult}
+use Rattle.format.specs.Bytes.{Bytes, Result, found, refused, mapResult}
 use Rattle.dem.specs.Track.{TrackLine, minusSign, lineFeed, digitZero, readTrack, trackNumber, digitsOf, normalTrack, digitBytes, writeTrack}
-use Rattle.dem.proofs.ResultLaws.{clash}
+use Rattle.format.proofs.ResultLaws.{clash}
 use Rattle.dem.proofs.TrackLaws.{track-sound, track-range, digit-length}
 use Rattle.heads.specs.Tracks.{trackOf}
 use Rattle.heads.specs.declared.TrackAt.{TrackAt}

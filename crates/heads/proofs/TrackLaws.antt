@@ -15,11 +15,11 @@ use lib.Seq.{drop-cons, drop-length}
 use mir.Syntax.{w16}
 use mir.Val.{toZ, ofZ, SFits}
 use mir.ValLaws.{toZ-pos, toZ-ofZ}
-use Rattle.dem.specs.Refusal.{code, wrongTrack}
-use Rattle.dem.specs.Bytes.{Result, found, refused, mapResult}
+use Rattle.format.specs.Refusal.{code, wrongTrack}
+use Rattle.format.specs.Bytes.{Result, found, refused, mapResult}
 use Rattle.dem.specs.Track.{minusSign, lineFeed, digitZero, mostDigits, isDigit, readDigits, lineOf, readTrack, decimal, trackNumber}
-use Rattle.dem.proofs.ResultLaws.{clash}
-use Rattle.dem.proofs.LayoutLaws.{and-true}
+use Rattle.format.proofs.ResultLaws.{clash}
+use Rattle.format.proofs.LayoutLaws.{and-true}
 use Rattle.heads.specs.Tracks.{answerAt, digitsFrom}
 
 -- ---- one byte

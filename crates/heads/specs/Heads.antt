@@ -5,9 +5,9 @@ use Prim.Native.Nat.{ℕ, _+_}
 use lib.ListN.{length, take, drop}
 use lib.Dec.{leb, eqb}
 use Rattle.dem.specs.Limits.{blockLimit, headSize}
-use Rattle.dem.specs.Refusal.{code, cutBlock, longBlock}
-use Rattle.dem.specs.Bytes.{Result, found, refused, mapResult, refusedAt, unless, require, leRead}
-use Rattle.dem.specs.Layout.{Value, number, parse}
+use Rattle.format.specs.Refusal.{code, cutBlock, longBlock}
+use Rattle.format.specs.Bytes.{Result, found, refused, mapResult, refusedAt, unless, require, leRead}
+use Rattle.format.specs.Layout.{Value, number, parse}
 use Rattle.dem.specs.Recording.{angleLayout}
 use Rattle.heads.specs.declared.HeadAt.{HeadAt}
 

@@ -5,7 +5,7 @@ use Prim.Native.Nat.{ℕ, _-_}
 use lib.IntN.{ℤ}
 use lib.ListN.{drop}
 use lib.Dec.{ltb, eqb}
-use Rattle.dem.specs.Bytes.{Result, found, refused, mapResult}
+use Rattle.format.specs.Bytes.{Result, found, refused, mapResult}
 use Rattle.dem.specs.Track.{mostDigits, readDigits, decimal}
 use Rattle.heads.specs.declared.TrackAt.{TrackAt}
 

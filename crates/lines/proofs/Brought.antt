@@ -7,11 +7,12 @@ use borrow.Author.Tests.{ne-eqb}
 use denote.Enum.Declared.{tagOf}
 use types.Run.{OneOf, miss}
 use lib.ListN.{length}
-use Rattle.dem.specs.Bytes.{Bytes}
-use Rattle.dem.specs.Layout.{Value, tail}
+use Rattle.format.specs.Bytes.{Bytes}
+use Rattle.format.specs.Layout.{Value, tail}
 use Rattle.dem.specs.Scene.{PlayerLine, Scene, contextOf}
 use Rattle.dem.specs.Message.{Message as Values, apply, fill}
-use Rattle.dem.specs.Answer.{Answer, refusal, Item, Reply, reply, messageAt}
+use Rattle.format.specs.Answer.{Answer, refusal, Item, Reply, reply}
+use Rattle.dem.specs.Answer.{messageAt}
 use Rattle.dem.proofs.MessageLaws.{fill-update}
 use Rattle.wire.specs.Cursors.{placed}
 use Rattle.wire.specs.declared.Text.{Text}

@@ -7,13 +7,14 @@ use mathlib.Core.Bool.{Bool, true, false, cond, not}
 use Prim.Native.Nat.{ℕ}
 use lib.Dec.{eqb, ltb}
 use lib.ListN.{length}
-use Rattle.dem.specs.Bytes.{Bytes}
+use Rattle.format.specs.Bytes.{Bytes}
 use Rattle.dem.specs.Limits.{playerCount}
 use Rattle.dem.specs.Scene.{Scene as Described, PlayerLine as Line}
 use Rattle.dem.specs.Message.{Message as Values}
 use Rattle.dem.specs.Recording.{messages}
-use Rattle.dem.specs.Answer.{Answer, result, atEnd, refusal, Item, Reply, messageAt}
-use Rattle.dem.proofs.GivenLaws.{GivenBack, given-through, item-given}
+use Rattle.format.specs.Answer.{Answer, result, atEnd, refusal, Item, Reply}
+use Rattle.dem.specs.Answer.{messageAt}
+use Rattle.format.proofs.GivenLaws.{GivenBack, given-through, item-given}
 use Rattle.wire.proofs.FieldLaws.{Held, Each}
 use Rattle.scene.specs.declared.PlayerLine.{PlayerLine}
 use Rattle.scene.specs.declared.Scene.{Scene}

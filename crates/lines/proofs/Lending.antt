@@ -14,16 +14,18 @@ use mir.Syntax.{w16}
 use mir.Val.{ofZ}
 use Rattle.dem.specs.Limits.{entityCount, playerCount, staticLimit}
 use Rattle.dem.specs.Kind
-use Rattle.dem.specs.Bytes.{Result, found, refused}
-use Rattle.dem.specs.Layout.{Value, number, numbers, firstNumber, tail}
-use Rattle.dem.specs.Scene.{PlayerLine, Scene, zeroLine, at, cleared, timeInRange, inRange}
+use Rattle.format.specs.Bytes.{Result, found, refused}
+use Rattle.format.specs.Layout.{Value, number, numbers, firstNumber, tail}
+use Rattle.format.specs.Floats.{timeInRange}
+use Rattle.dem.specs.Scene.{PlayerLine, Scene, zeroLine, at, cleared, inRange}
 use Rattle.dem.specs.Message.{Message, fill, changed, apply}
-use Rattle.dem.specs.Recording.{readMessage, messages, placeIn}
-use Rattle.dem.specs.Answer.{Answer, result, atEnd, refusal, Item, Reply, reply, itemOf, itemAt, messageAt}
-use Rattle.dem.proofs.ResultLaws.{clash}
+use Rattle.format.specs.Answer.{placeIn, Answer, result, atEnd, refusal, Item, Reply, reply, itemOf, itemAt}
+use Rattle.dem.specs.Recording.{readMessage, messages}
+use Rattle.dem.specs.Answer.{messageAt}
+use Rattle.format.proofs.ResultLaws.{clash}
 use Rattle.dem.proofs.RangeLaws.{range→}
-use Rattle.dem.proofs.SceneLaws.{SetAt}
-use Rattle.dem.proofs.AnswerLaws.{item-wrong}
+use Rattle.format.proofs.ListLaws.{SetAt}
+use Rattle.format.proofs.AnswerLaws.{item-wrong}
 use Rattle.message.specs.declared.Player.{Player}
 use Rattle.lines.specs.declared.LineChange.{LineChange}
 use Rattle.lines.specs.declared.LineChange.the-variants as C
@@ -168,21 +170,21 @@ module _ (s : Scene) (lines : List PlayerLine) where
     item-over (refused n left) = refl
 
     abbrev chosen : Scene → R → Bool → Bool → Bool → R
-    chosen t item wrong ended past = cond wrong (reply t (refusal 14 0)) (cond ended (reply t atEnd) (cond past (reply t (refusal 5 place)) item))
+    chosen t item wrong past ended = cond wrong (reply t (refusal 14 0)) (cond past (reply t (refusal 5 place)) (cond ended (reply t atEnd) item))
 
-    chosen-over : (wrong ended past : Bool) → chosen s′ (itemOf messages s′ input (readMessage s (drop place input))) wrong ended past ≡ over (chosen s (itemOf messages s input (readMessage s (drop place input))) wrong ended past)
-    chosen-over true ended past = refl
-    chosen-over false true past = refl
+    chosen-over : (wrong past ended : Bool) → chosen s′ (itemOf messages s′ input (readMessage s (drop place input))) wrong past ended ≡ over (chosen s (itemOf messages s input (readMessage s (drop place input))) wrong past ended)
+    chosen-over true past ended = refl
+    chosen-over false true ended = refl
     chosen-over false false true = refl
     chosen-over false false false = item-over (readMessage s (drop place input))
 
     message-over : length (s .players) ≡ 16 → length lines ≡ 16 → messageAt s′ input place ≡ over (messageAt s input place)
     unfolding itemAt readMessage
     message-over p l =
-        let ended = eqb place (length input) in
         let past = ltb (length input) place in
-        ap (λ (b : Bool). chosen s′ (itemOf messages s′ input (readMessage s (drop place input))) (not b) ended past) (same-range p l)
-        ∙ chosen-over (not (inRange s)) ended past
+        let ended = eqb place (length input) in
+        ap (λ (b : Bool). chosen s′ (itemOf messages s′ input (readMessage s (drop place input))) (not b) past ended) (same-range p l)
+        ∙ chosen-over (not (inRange s)) past ended
 
     -- Sixteen lines that are lent: what the scene by value answers is answered, all but the lines is its scene after, and the lines are what the message makes of them.
     pub message-lent : length (s .players) ≡ 16 → length lines ≡ 16 →

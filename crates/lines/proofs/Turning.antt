@@ -15,7 +15,7 @@ use lib.WfN.{Nat·lt-wfRel}
 use mir.Syntax.{w16}
 use mir.Val.{ofZ}
 use Rattle.dem.specs.Scene.{PlayerLine as Line, zeroLine}
-use Rattle.dem.specs.Answer.{Answer, result, refusal}
+use Rattle.format.specs.Answer.{Answer, result, refusal}
 use Rattle.message.specs.declared.Player.{Player}
 use Rattle.scene.specs.Views.{lineOf}
 use Rattle.scene.specs.declared.PlayerLine.{PlayerLine}

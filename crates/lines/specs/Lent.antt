@@ -7,10 +7,11 @@ use lib.ListN.{length, replicate}
 use mir.Syntax.{w16}
 use mir.Val.{ofZ}
 use Rattle.dem.specs.Limits.{playerCount}
-use Rattle.dem.specs.Refusal.{code, wrongNumber, wrongScene}
+use Rattle.format.specs.Refusal.{code, wrongNumber, wrongScene}
 use Rattle.dem.specs.Scene.{PlayerLine, Scene, zeroLine}
 use Rattle.dem.specs.Message.{Message, setFrags, setColours}
-use Rattle.dem.specs.Answer.{Answer, result, refusal, Item, Reply, reply, messageAt}
+use Rattle.format.specs.Answer.{Answer, result, refusal, Item, Reply, reply}
+use Rattle.dem.specs.Answer.{messageAt}
 use Rattle.lines.specs.declared.LineChange.{LineChange}
 use Rattle.lines.specs.declared.LineChange.the-variants as C
 use Rattle.lines.specs.declared.LinesAnswer.{LinesAnswer}

@@ -7,7 +7,7 @@ use lib.Dec.{eqb, ltb}
 use lib.IntN.{pos}
 use lib.ListN.{getD, set}
 use Rattle.dem.specs.Limits.{playerCount}
-use Rattle.dem.specs.Refusal.{code, wrongNumber, wrongScene}
+use Rattle.format.specs.Refusal.{code, wrongNumber, wrongScene}
 use Rattle.dem.specs.Scene.{PlayerLine as Line, Scene as Described}
 use Rattle.dem.specs.Message.{apply, fill}
 use Rattle.wire.specs.declared.Text.{Text}

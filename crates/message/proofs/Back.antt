@@ -14,10 +14,10 @@ use lib.Seq.{length-take-le}
 use denote.Enum.Declared.{row, variants}
 use denote.Enum.Laws.{Fields, spellss, owed}
 use Rattle.dem.specs.Limits.{nameLimit}
-use Rattle.dem.specs.Layout.{Value, number, asText, numbers, firstNumber, tail}
+use Rattle.format.specs.Layout.{Value, number, asText, numbers, firstNumber, tail}
 use Rattle.dem.specs.Scene.{Context}
 use Rattle.dem.specs.Message.{isUpdate, isEmpty, kindLayout, layout}
-use Rattle.dem.proofs.LayoutLaws.{Allowed, and-true}
+use Rattle.format.proofs.LayoutLaws.{Allowed, and-true}
 use Rattle.wire.specs.Cursors.{placed}
 use Rattle.wire.specs.declared.Text.{Text}
 use Rattle.wire.proofs.FieldLaws.{Held, from, from-front}

@@ -6,10 +6,10 @@ use mathlib.Core.Bool.{Bool, true, cond}
 use Prim.Native.Nat.{ℕ, _+_}
 use lib.ListN.{length}
 use lib.Seq.{sets}
-use Rattle.dem.specs.Bytes.{leWrite}
-use Rattle.dem.specs.Layout.{number, print}
+use Rattle.format.specs.Bytes.{leWrite}
+use Rattle.format.specs.Layout.{number, print}
 use Rattle.dem.specs.Recording.{angleLayout}
-use Rattle.dem.proofs.ListLaws.{sets-append}
+use Rattle.format.proofs.ListLaws.{sets-append}
 
 -- Bytes set at a place, then others behind them.
 pub sets-then : (a b c : List ℕ) (p q : ℕ) (xs ys : List ℕ) → b ≡ sets a p xs → q ≡ p + length xs → c ≡ sets b q ys → c ≡ sets a p (xs ++ ys)

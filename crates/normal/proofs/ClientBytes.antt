@@ -8,13 +8,13 @@ use native.Mathlib.Omega.{arith}
 use mir.Val.{ofZ}
 use mir.Syntax.{w32}
 use Rattle.dem.specs.Kind
-use Rattle.dem.specs.Bytes.{leWrite, bit, bitOf, fromBits}
-use Rattle.dem.specs.Layout.{Value, number, Layout, done, print}
-use Rattle.dem.specs.Masked.{Mask, sendSlots}
+use Rattle.format.specs.Bytes.{leWrite, bit, bitOf, fromBits}
+use Rattle.format.specs.Layout.{Value, number, Layout, done, print}
+use Rattle.format.specs.Masked.{Mask, sendSlots}
 use Rattle.dem.specs.Scene.{Context}
 use Rattle.dem.specs.Message.{layout, kindLayout, row, clientSlots, clientTail, clientMask, sendClient}
-use Rattle.dem.proofs.ByteLaws.{bit-from}
-use Rattle.dem.proofs.MaskedLaws.{Chosen, Agree, behind, agree-below, agree-layout}
+use Rattle.format.proofs.ByteLaws.{bit-from}
+use Rattle.format.proofs.MaskedLaws.{Chosen, Agree, behind, agree-below, agree-layout}
 use Rattle.message.specs.declared.Supplies.{Supplies}
 use Rattle.message.specs.Values.{suppliesValues}
 use Rattle.scene.specs.Views.{clientValues}

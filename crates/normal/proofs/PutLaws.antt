@@ -8,9 +8,9 @@ use native.Mathlib.Omega.{arith}
 use native.Mathlib.Numerals.{add-one}
 use lib.ListN.{length, take, drop, getD, set, length-append, length-set, length-drop}
 use lib.Seq.{sets, sets-eq, length-sets, length-take-le, take-at, take-set-le, take-suc-set, take-suc, take-take, take-append-add, getD-drop}
-use Rattle.dem.specs.Bytes.{leWrite}
-use Rattle.dem.specs.Layout.{Value, asNumber}
-use Rattle.dem.specs.Masked.{Slot, differs}
+use Rattle.format.specs.Bytes.{leWrite}
+use Rattle.format.specs.Layout.{Value, asNumber}
+use Rattle.format.specs.Masked.{Slot, differs}
 use Rattle.normal.specs.Put.{Put, Behind}
 use Rattle.normal.specs.Sent.{sentBytes}
 

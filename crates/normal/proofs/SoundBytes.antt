@@ -9,13 +9,13 @@ use lib.ListN.{take, drop}
 use denote.Enum.Declared.{tagOf}
 use types.Run.{OneOf, miss}
 use Rattle.dem.specs.Kind
-use Rattle.dem.specs.Bytes.{leWrite, bit, fromBits}
-use Rattle.dem.specs.Layout.{Value, number, Layout, done, print, tail}
-use Rattle.dem.specs.Masked.{Mask, normalMask, sendSlots}
+use Rattle.format.specs.Bytes.{leWrite, bit, fromBits}
+use Rattle.format.specs.Layout.{Value, number, Layout, done, print, tail}
+use Rattle.format.specs.Masked.{Mask, normalMask, sendSlots}
 use Rattle.dem.specs.Scene.{Context}
 use Rattle.dem.specs.Message.{layout, kindLayout, row, soundSlots, soundTail, fillSound, sendSound}
-use Rattle.dem.proofs.ByteLaws.{bit-from}
-use Rattle.dem.proofs.MaskedLaws.{Chosen, Agree, behind, agree-below, agree-layout}
+use Rattle.format.proofs.ByteLaws.{bit-from}
+use Rattle.format.proofs.MaskedLaws.{Chosen, Agree, behind, agree-below, agree-layout}
 use Rattle.message.proofs.Message as Messages
 use Rattle.message.specs.declared.Message.{Message}
 use Rattle.message.specs.declared.Message.the-variants as M

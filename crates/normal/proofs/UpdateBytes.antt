@@ -9,12 +9,12 @@ use borrow.Author.Tests.{ne-eqb, le-leb}
 use lib.Dec.{eqb, leb, lit<}
 use mir.Val.{boolByte}
 use Rattle.dem.specs.Kind
-use Rattle.dem.specs.Bytes.{leWrite, isSet, bit, bitOf}
-use Rattle.dem.specs.Layout.{Value, number, Layout, done, field, print, firstValue, firstNumber, asNumber, tail}
-use Rattle.dem.specs.Masked.{Slot, Mask, isSent, differs, slotLayout, sendSlots}
+use Rattle.format.specs.Bytes.{leWrite, isSet, bit, bitOf}
+use Rattle.format.specs.Layout.{Value, number, Layout, done, field, print, firstValue, firstNumber, asNumber, tail}
+use Rattle.format.specs.Masked.{Slot, Mask, isSent, differs, slotLayout, sendSlots}
 use Rattle.dem.specs.Scene.{Context, Baseline, zeroBaseline}
 use Rattle.dem.specs.Message.{layout, kindLayout, highBit, wideBit, updateMask, updateSlots, sentMask, highByte, updateNumber, sendUpdate}
-use Rattle.dem.proofs.MaskedLaws.{Chosen, behind, agree-layout}
+use Rattle.format.proofs.MaskedLaws.{Chosen, behind, agree-layout}
 use Rattle.dem.proofs.UpdateLaws.{number-bit, high-bit, number-agrees}
 use Rattle.scene.specs.Views.{baselineNumbers, recordValues}
 use Rattle.scene.specs.declared.Baseline.{Baseline as Base}

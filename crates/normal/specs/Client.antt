@@ -3,9 +3,9 @@ use mathlib.Core.List.{List, [], _∷_, _++_}
 use Prim.Native.Nat.{ℕ}
 use mir.Val.{ofZ}
 use mir.Syntax.{w8, w16}
-use Rattle.dem.specs.Bytes.{leWrite}
-use Rattle.dem.specs.Layout.{Value, number}
-use Rattle.dem.specs.Masked.{Slot, slot}
+use Rattle.format.specs.Bytes.{leWrite}
+use Rattle.format.specs.Layout.{Value, number}
+use Rattle.format.specs.Masked.{Slot, slot}
 use Rattle.message.specs.declared.Motion.{Motion}
 use Rattle.message.specs.declared.Arms.{Arms}
 use Rattle.message.specs.declared.Supplies.{Supplies}

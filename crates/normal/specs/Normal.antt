@@ -6,8 +6,8 @@ use Prim.Native.Nat.{ℕ, _+_, _-_, _*_}
 use lib.ListN.{take, drop}
 use mir.Val.{ofZ}
 use mir.Syntax.{w16}
-use Rattle.dem.specs.Bytes.{leWrite}
-use Rattle.dem.specs.Layout.{print, tail}
+use Rattle.format.specs.Bytes.{leWrite}
+use Rattle.format.specs.Layout.{print, tail}
 use Rattle.dem.specs.Scene.{Context}
 use Rattle.dem.specs.Message.{layout, fillSound, sendSound}
 use Rattle.message.specs.declared.Message.{Message}

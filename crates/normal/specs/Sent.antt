@@ -6,9 +6,9 @@ use lib.Dec.{leb}
 use lib.ListN.{take, drop}
 use mir.Val.{ofZ}
 use mir.Syntax.{w8, w16}
-use Rattle.dem.specs.Bytes.{leWrite, isSet}
-use Rattle.dem.specs.Layout.{Value, number, numbers, firstValue, firstNumber, tail}
-use Rattle.dem.specs.Masked.{Slot, Mask, differs}
+use Rattle.format.specs.Bytes.{leWrite, isSet}
+use Rattle.format.specs.Layout.{Value, number, numbers, firstValue, firstNumber, tail}
+use Rattle.format.specs.Masked.{Slot, Mask, differs}
 use Rattle.dem.specs.Scene.{Baseline}
 use Rattle.dem.specs.Message.{updateSlots, sentMask}
 use Rattle.message.specs.declared.Look.{Look}

@@ -13,13 +13,13 @@ use mir.Val.{ofZ}
 use mir.Syntax.{w32}
 use Rattle.dem.specs.Limits.{nameLimit}
 use Rattle.dem.specs.Kind
-use Rattle.dem.specs.Bytes.{leWrite, writeString}
-use Rattle.dem.specs.Layout.{Value, number, text, Layout, done, field, split, string, print, allows, tail}
+use Rattle.format.specs.Bytes.{leWrite, writeString}
+use Rattle.format.specs.Layout.{Value, number, text, Layout, done, field, split, string, print, allows, tail}
 use Rattle.dem.specs.Scene.{Context}
-use Rattle.dem.specs.Message.{Field, byte, short, long, chars, entity, player, statIndex, style, version, limit, channelEntity, timeBits}
-use Rattle.dem.specs.Message.{row, rows, vector, names, isPoint, isUpdate, kindLayout, layout, updateLayout, soundLayout, clientLayout, temporaryLayout}
-use Rattle.dem.proofs.ResultLaws.{clash}
-use Rattle.dem.proofs.LayoutLaws.{Allowed, allows→, and-true}
+use Rattle.dem.specs.Message.{Field, byte, short, long, chars, entity, player, statIndex, style, version, limit, channelEntity, timeBits, row, rows}
+use Rattle.dem.specs.Message.{vector, names, isPoint, isUpdate, kindLayout, layout, updateLayout, soundLayout, clientLayout, temporaryLayout}
+use Rattle.format.proofs.ResultLaws.{clash}
+use Rattle.format.proofs.LayoutLaws.{Allowed, allows→, and-true}
 use Rattle.dem.proofs.MessageLaws.{kind-update}
 use Rattle.wire.specs.Cursors.{textIn}
 use Rattle.wire.specs.declared.Text.{Text}

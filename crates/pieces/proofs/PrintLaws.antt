@@ -8,9 +8,9 @@ use lib.IntN.{ℤ}
 use lib.Signed.{mag}
 use mir.Syntax.{Width}
 use mir.Val.{toZ, ofZ, hbits, SFits}
-use Rattle.dem.specs.Bytes.{leWrite, isSet, bit}
-use Rattle.dem.specs.Layout.{Value, number, Layout, done, field, split, print}
-use Rattle.dem.proofs.ByteLaws.{bit-div}
+use Rattle.format.specs.Bytes.{leWrite, isSet, bit}
+use Rattle.format.specs.Layout.{Value, number, Layout, done, field, split, print}
+use Rattle.format.proofs.ByteLaws.{bit-div}
 use Rattle.wire.proofs.SignedLaws.{same-bits}
 use Rattle.pieces.specs.declared.Piece.{Piece}
 use Rattle.pieces.specs.Bytes.{numberPiece, pieceBytes, bytesOf}

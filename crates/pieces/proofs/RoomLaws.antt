@@ -11,9 +11,9 @@ use lib.Dec.{leb}
 use lib.ListN.{length, getD, set, take, drop, length-append, length-take, length-drop}
 use lib.Seq.{sets, length-sets, drop-cons, take-all}
 use borrow.Author.Tests.{leb-true, leb-false}
-use Rattle.dem.specs.Bytes.{leWrite}
-use Rattle.dem.proofs.ByteLaws.{le-length}
-use Rattle.dem.proofs.ListLaws.{sets-append}
+use Rattle.format.specs.Bytes.{leWrite}
+use Rattle.format.proofs.ByteLaws.{le-length}
+use Rattle.format.proofs.ListLaws.{sets-append}
 use Rattle.wire.specs.Cursors.{textIn}
 use Rattle.pieces.specs.declared.Piece.{Piece}
 use Rattle.pieces.specs.declared.Pieces.{Pieces}

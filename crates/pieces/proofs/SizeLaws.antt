@@ -9,17 +9,18 @@ use native.Mathlib.Omega.{arith}
 use borrow.Author.Tests.{leb-true}
 use lib.Dec.{leb, eqb, lit≤}
 use lib.ListN.{length, getD, length-append}
-use Rattle.dem.specs.Limits.{stringLimit, nameLimit}
+use Rattle.format.specs.Limits.{stringLimit}
+use Rattle.dem.specs.Limits.{nameLimit}
 use Rattle.dem.specs.Kind
-use Rattle.dem.specs.Bytes.{leWrite, bit, writeString}
-use Rattle.dem.specs.Layout.{Value, number, text, Layout, done, field, split, string, print, allows}
-use Rattle.dem.specs.Masked.{Slot, Mask, isSent, slotLayout}
+use Rattle.format.specs.Bytes.{leWrite, bit, writeString}
+use Rattle.format.specs.Layout.{Value, number, text, Layout, done, field, split, string, print, allows}
+use Rattle.format.specs.Masked.{Slot, Mask, isSent, slotLayout}
 use Rattle.dem.specs.Scene.{Context, zeroBaseline}
-use Rattle.dem.specs.Message.{Field, byte, short, long, chars, entity, player, statIndex, style, version, limit, channelEntity, timeBits}
-use Rattle.dem.specs.Message.{fieldLayout, row, rows, vector, isEmpty, names, isPoint, isUpdate, soundSlots, soundTail, clientSlots, clientTail}
-use Rattle.dem.specs.Message.{updateSlots, updateMask, highBit, wideBit, updateLayout, kindLayout, layout}
-use Rattle.dem.proofs.ByteLaws.{StringBytes, le-length, bit-lt}
-use Rattle.dem.proofs.LayoutLaws.{Allowed, allows→, and-true}
+use Rattle.dem.specs.Message.{Field, byte, short, long, chars, entity, player, statIndex, style, version, limit, channelEntity, timeBits, fieldLayout}
+use Rattle.dem.specs.Message.{row, rows, vector, isEmpty, names, isPoint, isUpdate, soundSlots, soundTail, clientSlots, clientTail, updateSlots}
+use Rattle.dem.specs.Message.{updateMask, highBit, wideBit, updateLayout, kindLayout, layout}
+use Rattle.format.proofs.ByteLaws.{StringBytes, le-length, bit-lt}
+use Rattle.format.proofs.LayoutLaws.{Allowed, allows→, and-true}
 
 record Within (l : Layout) (n : ℕ) : Type 0 where
   within : (vs : List Value) → Allowed l vs → length (print l vs) ≤ n

@@ -8,14 +8,14 @@ use mathlib.Core.Logic.{inl, ⊎-elim}
 use Prim.Native.Nat.{ℕ, zero, suc}
 use lib.Dec.{eqb}
 use borrow.Author.Tests.{eqb-true}
-use Rattle.dem.specs.Limits.{stringLimit}
-use Rattle.dem.specs.Refusal.{wrongNumber}
-use Rattle.dem.specs.Bytes.{unless, free, writeString}
-use Rattle.dem.specs.Layout.{Value, number, text, Layout, done, string, print, asText}
+use Rattle.format.specs.Limits.{stringLimit}
+use Rattle.format.specs.Refusal.{wrongNumber}
+use Rattle.format.specs.Bytes.{unless, free, writeString}
+use Rattle.format.specs.Layout.{Value, number, text, Layout, done, string, print, asText}
 use Rattle.dem.specs.Message.{isEmpty, names}
-use Rattle.dem.proofs.ResultLaws.{clash}
-use Rattle.dem.proofs.ByteLaws.{StringBytes}
-use Rattle.dem.proofs.LayoutLaws.{Allowed}
+use Rattle.format.proofs.ResultLaws.{clash}
+use Rattle.format.proofs.ByteLaws.{StringBytes}
+use Rattle.format.proofs.LayoutLaws.{Allowed}
 use Rattle.wire.specs.Cursors.{textIn}
 use Rattle.wire.specs.declared.Text.{Text}
 use Rattle.strings.specs.Names.{nameStep, namesIn}

@@ -11,7 +11,7 @@ use lib.Signed.{ltZ, nonNeg}
 use mir.Syntax.{Width}
 use mir.Val.{toZ, ofZ, bits, SFits, Fits}
 use mir.ValLaws.{toZ-ofZ, half-full}
-use Rattle.dem.proofs.ResultLaws.{clash}
+use Rattle.format.proofs.ResultLaws.{clash}
 
 -- What a cast to the unsigned numbers of the width needs.
 abbrev Unsigned : Width → ℤ → Type 0

@@ -4,7 +4,7 @@ use Prim.Native.Nat.{ℕ, zero, suc, min}
 use lib.ListN.{getD}
 use mir.Val.{ofZ}
 use mir.Syntax.{w8, w16}
-use Rattle.dem.specs.Bytes.{leWrite}
+use Rattle.format.specs.Bytes.{leWrite}
 use Rattle.wire.specs.Cursors.{textIn}
 use Rattle.wire.specs.declared.Text.{Text}
 use Rattle.message.specs.declared.Vector.{Vector}

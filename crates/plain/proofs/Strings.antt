@@ -8,10 +8,10 @@ use native.Mathlib.Omega.{arith}
 use borrow.Author.Tests.{eq-eqb, eqb-true}
 use lib.Dec.{eqb}
 use lib.ListN.{drop}
-use Rattle.dem.specs.Bytes.{Result, found, refused, refusedAt}
-use Rattle.dem.specs.Layout.{Value, Layout, parse}
-use Rattle.dem.proofs.ResultLaws.{clash}
-use Rattle.dem.proofs.AnswerLaws.{place-drop}
+use Rattle.format.specs.Bytes.{Result, found, refused, refusedAt}
+use Rattle.format.specs.Layout.{Value, Layout, parse}
+use Rattle.format.proofs.ResultLaws.{clash}
+use Rattle.format.proofs.AnswerLaws.{place-drop}
 use Rattle.wire.specs.Cursors.{gotten, parseAt}
 use Rattle.wire.specs.declared.Cursor.{Cursor}
 use Rattle.wire.specs.declared.Text.{Text}

@@ -11,13 +11,13 @@ use lib.Dec.{eqb}
 use lib.ListN.{length, take, drop}
 use lib.Seq.{take-all}
 use Rattle.dem.specs.Kind
-use Rattle.dem.specs.Bytes.{Result, found, refused, mapResult, leRead, refusedAt, bit, bitOf, isSet}
-use Rattle.dem.specs.Layout.{Value, number, done, parse, put, tail}
-use Rattle.dem.specs.Masked.{slotLayout}
+use Rattle.format.specs.Bytes.{Result, found, refused, mapResult, leRead, refusedAt, bit, bitOf, isSet}
+use Rattle.format.specs.Layout.{Value, number, done, parse, put, tail}
+use Rattle.format.specs.Masked.{slotLayout}
 use Rattle.dem.specs.Scene.{Context}
 use Rattle.dem.specs.Message.{clientRule, groundBit, waterBit, kindLayout, fillClient, sendClient}
-use Rattle.dem.proofs.ByteLaws.{bit-div}
-use Rattle.dem.proofs.AtLaws.{parse-good}
+use Rattle.format.proofs.ByteLaws.{bit-div}
+use Rattle.format.proofs.AtLaws.{parse-good}
 use Rattle.wire.specs.Cursors.{gotten, parseAt}
 use Rattle.wire.specs.declared.Cursor.{Cursor}
 use Rattle.wire.proofs.Sticky.{here}

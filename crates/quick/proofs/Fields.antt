@@ -12,12 +12,12 @@ use lib.ListN.{length, take, drop, getD}
 use lib.Signed.{mag}
 use mir.Syntax.{Width, w8, w16}
 use mir.Val.{ofZ, toZ, hbits}
-use Rattle.dem.specs.Bytes.{leRead, isSet, bit, bitOf}
-use Rattle.dem.specs.Layout.{Value, number}
-use Rattle.dem.specs.Masked.{Slot, Mask, slot, isSent}
+use Rattle.format.specs.Bytes.{leRead, isSet, bit, bitOf}
+use Rattle.format.specs.Layout.{Value, number}
+use Rattle.format.specs.Masked.{Slot, Mask, slot, isSent}
 use Rattle.dem.specs.Message.{highBit, wideBit}
-use Rattle.dem.proofs.ByteLaws.{bit-div}
-use Rattle.dem.proofs.AtLaws.{one-at, two-at}
+use Rattle.format.proofs.ByteLaws.{bit-div}
+use Rattle.format.proofs.AtLaws.{one-at, two-at}
 use Rattle.wire.proofs.SignedLaws.{same-bits}
 use Rattle.message.specs.declared.Look.{Look}
 use Rattle.message.specs.declared.Pose.{Pose}

@@ -10,15 +10,15 @@ use borrow.Author.Tests.{eq-eqb, ltb-false, le-leb, lt-leb, not-false}
 use lib.Dec.{eqb, leb, ltb}
 use lib.ListN.{take, drop}
 use Rattle.dem.specs.Kind
-use Rattle.dem.specs.Bytes.{leRead, isSet, bit, bitOf, fromBits}
-use Rattle.dem.specs.Layout.{Value, number}
-use Rattle.dem.specs.Masked.{Slot, Mask, isSent, differs, sendSlots}
+use Rattle.format.specs.Bytes.{leRead, isSet, bit, bitOf, fromBits}
+use Rattle.format.specs.Layout.{Value, number}
+use Rattle.format.specs.Masked.{Slot, Mask, isSent, differs, sendSlots}
 use Rattle.dem.specs.Scene.{Baseline}
 use Rattle.dem.specs.Message.{highBit, wideBit, recordBit, groundBit, waterBit, updateMask, updateSlots, sentMask, highByte, updateNumber, sendUpdate}
 use Rattle.dem.specs.Message.{clientSlots, clientMask, sendClient}
-use Rattle.dem.proofs.ResultLaws.{clash}
-use Rattle.dem.proofs.ByteLaws.{set-bit}
-use Rattle.dem.proofs.MaskedLaws.{Agree, Chosen}
+use Rattle.format.proofs.ResultLaws.{clash}
+use Rattle.format.proofs.ByteLaws.{set-bit}
+use Rattle.format.proofs.MaskedLaws.{Agree, Chosen}
 use Rattle.masked.proofs.MaskLaws.{update-mask}
 use Rattle.quick.specs.Spread.{fieldOr, behind, needlessOr, spread, needlessIn, filledAt, suppliesSlots, clientFields, clientIn}
 use Rattle.quick.specs.Heads.{needlessHead}

@@ -10,13 +10,14 @@ use lib.ListN.{length, take, drop, getD}
 use lib.Seq.{take-take, length-take-le}
 use Rattle.dem.specs.Kind
 use Rattle.dem.specs.Limits.{entityCount}
-use Rattle.dem.specs.Bytes.{found, leRead, free, bit, bitOf, isSet}
-use Rattle.dem.specs.Layout.{Value, number, Layout, done, field, put, parse}
-use Rattle.dem.specs.Masked.{Slot, Mask, isSent, slotLayout, fillSlots}
+use Rattle.format.specs.Bytes.{found, leRead, free, bit, bitOf, isSet}
+use Rattle.format.specs.Layout.{Value, number, Layout, done, field, put, parse}
+use Rattle.format.specs.Masked.{Slot, Mask, isSent, slotLayout, fillSlots}
 use Rattle.dem.specs.Scene.{zeroBaseline}
-use Rattle.dem.specs.Message.{entityRule, highBit, recordBit, wideBit, highRule, updateMask, updateSlots, entityLayout, updateLayout, fillUpdate, sendUpdate}
-use Rattle.dem.proofs.ByteLaws.{bit-div}
-use Rattle.dem.proofs.AtLaws.{parse-done, parse-good, one-at}
+use Rattle.dem.specs.Message.{entityRule, highBit, recordBit, wideBit, highRule, updateMask, updateSlots, entityLayout, updateLayout, fillUpdate}
+use Rattle.dem.specs.Message.{sendUpdate}
+use Rattle.format.proofs.ByteLaws.{bit-div}
+use Rattle.format.proofs.AtLaws.{parse-done, parse-good, one-at}
 use Rattle.dem.proofs.UpdateLaws.{entity-good}
 use Rattle.masked.proofs.MaskLaws.{update-mask}
 use Rattle.scene.specs.Views.{baselineNumbers, recordValues}

@@ -4,7 +4,7 @@ use mathlib.Core.Bool.{Bool, _&&_, _||_}
 use Prim.Native.Nat.{ℕ, suc, _+_, _*_}
 use lib.Dec.{ltb}
 use lib.ListN.{take, drop}
-use Rattle.dem.specs.Bytes.{leRead, bit, bitOf}
+use Rattle.format.specs.Bytes.{leRead, bit, bitOf}
 use Rattle.dem.specs.Message.{highBit, wideBit}
 use Rattle.quick.specs.Spread.{fieldOr, behind}
 use Rattle.quick.specs.declared.UpdateHead.{UpdateHead}

@@ -5,9 +5,9 @@ use Prim.Native.Nat.{ℕ, _+_}
 use lib.Dec.{eqb}
 use lib.ListN.{take, drop}
 use Rattle.dem.specs.Kind
-use Rattle.dem.specs.Bytes.{Result, mapResult, leRead, bit, bitOf}
-use Rattle.dem.specs.Layout.{Value, number, numbers, tail}
-use Rattle.dem.specs.Masked.{Slot, Mask, sentAlways, isSent}
+use Rattle.format.specs.Bytes.{Result, mapResult, leRead, bit, bitOf}
+use Rattle.format.specs.Layout.{Value, number, numbers, tail}
+use Rattle.format.specs.Masked.{Slot, Mask, sentAlways, isSent}
 use Rattle.dem.specs.Scene.{Baseline, Context}
 use Rattle.dem.specs.Message.{recordBit, updateSlots, clientSlots, groundBit, waterBit, fillClient}
 use Rattle.parts.specs.Kinds.{kindAt}

@@ -9,7 +9,7 @@ use borrow.Author.Tests.{lt-ltb, le-ltb, ltb-true, ltb-false}
 use lib.Dec.{ltb}
 use lib.ListN.{length, length-append}
 use Rattle.dem.specs.Track.{digitZero, decimal, Digits}
-use Rattle.dem.proofs.ResultLaws.{clash}
+use Rattle.format.proofs.ResultLaws.{clash}
 use Rattle.report.specs.Lines.{decimalDigits, mostDigits, decimalText, refusalLine}
 
 digits-last : (f v : ℕ) → v < 10 → decimalDigits (suc f) v ≡ (v ∷ [])

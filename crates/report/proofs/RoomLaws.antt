@@ -9,7 +9,7 @@ use native.Mathlib.Omega.{arith}
 use lib.ListN.{length, getD, set, drop, replicate, drop-of-length-le, length-append}
 use lib.Seq.{sets, set-comm, drop-cons}
 use Rattle.dem.specs.Track.{digitZero}
-use Rattle.dem.proofs.ListLaws.{sets-append, sets-front}
+use Rattle.format.proofs.ListLaws.{sets-append, sets-front}
 use Rattle.report.specs.declared.Line.{Line}
 use Rattle.report.specs.Lines.{lineRoom, padded}
 use Rattle.report.proofs.DigitLaws.{lastText, last-length}

@@ -6,7 +6,7 @@ use mathlib.Core.Bool.{Bool}
 use Prim.Native.Nat.{ℕ}
 use denote.Enum.Declared.{tagOf}
 use types.Run.{OneOf, miss}
-use Rattle.dem.specs.Layout.{Value, tail}
+use Rattle.format.specs.Layout.{Value, tail}
 use Rattle.dem.specs.Scene.{Scene}
 use Rattle.dem.specs.Message.{apply, fill}
 use Rattle.dem.proofs.MessageLaws.{fill-update}

@@ -12,7 +12,7 @@ use mir.ValLaws.{toZ-ofZ}
 use denote.Laws.{Is}
 use denote.Struct.Field.{i32-field}
 use Rattle.dem.specs.Limits.{entityCount, playerCount, statCount}
-use Rattle.dem.specs.Layout.{numbers}
+use Rattle.format.specs.Layout.{numbers}
 use Rattle.dem.specs.Scene.{PlayerLine as Line, Scene as Described}
 use Rattle.wire.proofs.FieldLaws.{Held, Fixed, fixed-by, AsNumbers, truth, struct, from, from-front, Each, list-undone, array-undone}
 use Rattle.message.specs.declared.Time.{Time}

@@ -15,10 +15,9 @@ use lib.Seq.{set-out, sets}
 use mir.Syntax.{w16, w32}
 use mir.Val.{SFits, ofZ, toZ}
 use mir.ValLaws.{ofZ-toZ, toZ-ofZ}
-use Rattle.dem.specs.Bytes.{Bytes}
+use Rattle.format.specs.Bytes.{Bytes, extend}
 use Rattle.dem.specs.Scene.{PlayerLine, Scene}
-use Rattle.dem.specs.Message.{extend}
-use Rattle.dem.proofs.ListLaws.{map-set, map-sets}
+use Rattle.format.proofs.ListLaws.{map-set, map-sets}
 use Rattle.wire.proofs.SignedLaws.{same-bits}
 
 -- ---- a scene with another part

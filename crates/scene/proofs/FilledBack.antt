@@ -11,10 +11,10 @@ use lib.ListN.{length, drop}
 use denote.Enum.Declared.{variants}
 use denote.Enum.Laws.{Fields, spellss, owed}
 use Rattle.dem.specs.Kind
-use Rattle.dem.specs.Layout.{Value, number, numbers, firstNumber, tail}
+use Rattle.format.specs.Layout.{Value, number, numbers, firstNumber, tail}
 use Rattle.dem.specs.Scene.{Scene as Described, Context, baselineAt}
 use Rattle.dem.specs.Message.{isUpdate, fillUpdate, fillSound, fillClient, fill}
-use Rattle.dem.proofs.ResultLaws.{clash}
+use Rattle.format.proofs.ResultLaws.{clash}
 use Rattle.wire.proofs.FieldLaws.{Held, from, from-front}
 use Rattle.message.specs.Places.{valuesTo}
 use Rattle.message.proofs.InPlace.{placed-values}

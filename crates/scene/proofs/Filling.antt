@@ -11,11 +11,11 @@ use denote.Enum.Declared.{tagOf}
 use types.Run.{OneOf, miss}
 use mir.Syntax.{Width}
 use mir.Val.{ofZ, toZ, hbits}
-use Rattle.dem.specs.Bytes.{isSet, bit}
-use Rattle.dem.specs.Layout.{number, tail}
+use Rattle.format.specs.Bytes.{isSet, bit}
+use Rattle.format.specs.Layout.{number, tail}
 use Rattle.dem.specs.Scene.{Scene, baselineAt}
 use Rattle.dem.specs.Message.{fill, fillUpdate, isUpdate}
-use Rattle.dem.proofs.ByteLaws.{bit-div}
+use Rattle.format.proofs.ByteLaws.{bit-div}
 use Rattle.dem.proofs.MessageLaws.{fill-update}
 use Rattle.wire.specs.declared.Text.{Text}
 use Rattle.wire.proofs.SignedLaws.{same-bits}

@@ -7,8 +7,9 @@ use Prim.Native.Nat.{ℕ, _^_, _<_}
 use borrow.Author.Tests.{eq-eqb}
 use lib.Dec.{leb, ltb, eqb}
 use lib.ListN.{length, length-map}
-use Rattle.dem.specs.Scene.{inRange, timeInRange}
-use Rattle.dem.proofs.RangeLaws.{time-bits}
+use Rattle.format.specs.Floats.{timeInRange}
+use Rattle.dem.specs.Scene.{inRange}
+use Rattle.format.proofs.FloatLaws.{time-bits}
 use Rattle.message.specs.declared.Time.{Time}
 use Rattle.message.specs.declared.Time.the-variants.{At}
 use Rattle.message.specs.Values.{timeOf}

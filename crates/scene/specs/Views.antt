@@ -6,9 +6,9 @@ use Prim.Native.Nat.{ℕ}
 use lib.Dec.{eqb}
 use mir.Val.{ofZ}
 use mir.Syntax.{w16, w32}
-use Rattle.dem.specs.Bytes.{bitOf}
+use Rattle.format.specs.Bytes.{bitOf}
 use Rattle.dem.specs.Kind
-use Rattle.dem.specs.Layout.{Value, number, numbers, firstNumber}
+use Rattle.format.specs.Layout.{Value, number, numbers, firstNumber}
 use Rattle.dem.specs.Scene.{PlayerLine as Line, Scene as Described, baselineAt}
 use Rattle.dem.specs.Message.{isUpdate}
 use Rattle.message.specs.declared.Message.{Message}

@@ -8,14 +8,15 @@ use native.Mathlib.Omega.{arith}
 use borrow.Author.Tests.{ltb-false}
 use lib.Dec.{ltb}
 use lib.ListN.{length, drop}
-use Rattle.dem.specs.Refusal.{code, cutMessage, shortRoom, wrongScene}
-use Rattle.dem.specs.Bytes.{Result, found, refused}
-use Rattle.dem.specs.Codec.{WrittenRun, writeMost, normalBytes}
+use Rattle.format.specs.Refusal.{code, cutMessage, shortRoom, wrongScene}
+use Rattle.format.specs.Bytes.{Result, found, refused}
+use Rattle.format.specs.Codec.{WrittenRun, writeMost, normalBytes}
 use Rattle.dem.specs.Scene.{Scene as Described, inRange}
 use Rattle.dem.specs.Track.{TrackLine, readTrack, trackNumber, normalTrack, writeTrack}
-use Rattle.dem.specs.Recording.{Block, blocks, placeIn}
-use Rattle.dem.specs.Answer.{result, refusal, reply, Written, written, rewritingOf, normalBlocksAt, trackNormalOf, trackNormal}
-use Rattle.dem.proofs.WrittenLaws.{written-fits}
+use Rattle.format.specs.Answer.{placeIn, result, refusal, reply, Written, written, writtenAt}
+use Rattle.dem.specs.Recording.{Block, blocks, normalBlock}
+use Rattle.dem.specs.Answer.{rewritingOf, normalBlocksAt, trackNormalOf, trackNormal}
+use Rattle.format.proofs.WrittenLaws.{written-fits}
 use Rattle.scene.specs.Views.{sceneOf}
 use Rattle.cobbrundle.specs.Replies.{rewriteAnswerOf, rewriteReplyOf, trackCountOf, trackWrittenOf}
 use Rattle.cobbrundle.specs.declared.Rewriting.{Rewriting}
@@ -47,11 +48,11 @@ module _ (s : Described) (bytes : List ℕ) (last : Bool) (before : ℕ) (room o
 -- What is used of a piece is of its bytes, and what is written has room.
 pub piece-within : (s : Described) (bytes : List ℕ) (last : Bool) (before : ℕ) (room : List ℕ)
     → (pieceAt s bytes last before room .told .used ≤ length bytes) × (pieceAt s bytes last before room .told .written ≤ length room)
-unfolding pieceAt normalBlocksAt
+unfolding pieceAt writtenAt
 piece-within s bytes last before room = go (inRange s) (ltb (length bytes) 0)
   where
     w : WrittenRun Described Block
-    w = writeMost blocks (normalBytes blocks) (length bytes) (length room) s (drop 0 bytes)
+    w = writeMost blocks (normalBytes blocks normalBlock) (length bytes) (length room) s (drop 0 bytes)
 
     told : Bool → Bool → Told
     told x y =
@@ -64,7 +65,7 @@ piece-within s bytes last before room = go (inRange s) (ltb (length bytes) 0)
     go : (x y : Bool) → (told x y .used ≤ length bytes) × (told x y .written ≤ length room)
     go false y = (zero-le, zero-le)
     go true true = (zero-le, zero-le)
-    go true false = (omega arith, written-fits blocks (normalBytes blocks) (length bytes) (length room) s (drop 0 bytes))
+    go true false = (omega arith, written-fits blocks (normalBytes blocks normalBlock) (length bytes) (length room) s (drop 0 bytes))
 
 -- ---- the track line
 

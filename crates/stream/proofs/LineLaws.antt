@@ -8,11 +8,12 @@ use native.Mathlib.Omega.{arith}
 use borrow.Author.Tests.{le-ltb}
 use lib.Dec.{ltb, eqb}
 use lib.ListN.{length, length-append}
-use Rattle.dem.specs.Refusal.{code, wrongTrack}
-use Rattle.dem.specs.Bytes.{Result, found, refused, mapResult}
-use Rattle.dem.specs.Track.{TrackLine, trackNumber, normalTrack, writeTrack, lineFeed, digitZero, minusSign, isDigit, mostDigits, lineOf, readDigits, readTrack}
-use Rattle.dem.specs.Recording.{placeIn}
-use Rattle.dem.specs.Answer.{result, refusal, reply, written, intoRoom, trackNormalOf, trackNormal}
+use Rattle.format.specs.Refusal.{code, wrongTrack}
+use Rattle.format.specs.Bytes.{Result, found, refused, mapResult}
+use Rattle.dem.specs.Track.{TrackLine, trackNumber, normalTrack, writeTrack, lineFeed, digitZero, minusSign, isDigit, mostDigits, lineOf, readDigits}
+use Rattle.dem.specs.Track.{readTrack}
+use Rattle.format.specs.Answer.{placeIn, result, refusal, reply, written, intoRoom}
+use Rattle.dem.specs.Answer.{trackNormalOf, trackNormal}
 use Rattle.stream.specs.Pieces.{Piece, unused, longestLine, firstLine}
 use Rattle.stream.specs.Pieces.{lineOf as lineTaken}
 

@@ -6,17 +6,19 @@ use mathlib.Core.Bool.{Bool, true, false, cond}
 use Prim.Native.Nat.{ℕ, zero, suc, _+_, _-_, zero-le}
 use lib.Dec.{ltb, eqb}
 use lib.ListN.{length, take, drop}
-use Rattle.dem.specs.Refusal.{code, shortRoom}
-use Rattle.dem.specs.Bytes.{Bytes, Result, found, refused}
+use Rattle.format.specs.Refusal.{code, shortRoom}
+use Rattle.format.specs.Bytes.{Bytes, Result, found, refused}
 use Rattle.dem.specs.Scene.{Scene, inRange}
-use Rattle.dem.specs.Codec.{after, WrittenRun, roomless, led, writeOn, writeMost, normalBytes}
-use Rattle.dem.specs.Recording.{Block, readBlock, blocks}
-use Rattle.dem.specs.Answer.{result, Written, written, Rewriting, rewritingOf, normalBlocksAt}
+use Rattle.format.specs.Codec.{after, WrittenRun, roomless, led, writeOn, writeMost, normalBytes}
+use Rattle.dem.specs.Recording.{Block, readBlock, blocks, normalBlock}
+use Rattle.format.specs.Answer.{result, Written, written, Rewriting}
+use Rattle.dem.specs.Answer.{rewritingOf, normalBlocksAt}
 use Rattle.dem.specs.WellFormed.{GoodBlock}
-use Rattle.dem.proofs.CodecLaws.{Taken}
+use Rattle.format.proofs.CodecLaws.{Taken}
 use Rattle.dem.proofs.BlockLaws.{block-lawful}
 use Rattle.dem.proofs.RangeLaws.{block-range}
-use Rattle.dem.proofs.RewritingLaws.{writtenBlocks, rewritten, normal-blocks-at, addedWritten, normal-pieces-add}
+use Rattle.format.proofs.RewritingLaws.{addedWritten}
+use Rattle.dem.proofs.RewritingLaws.{writtenBlocks, rewritten, normal-blocks-at, normal-pieces-add}
 use Rattle.stream.specs.Pieces.{Told, Piece, placeBehind, toldOf, pieceOf, pieceAt}
 use Rattle.stream.proofs.PlaceLaws.{behind-both}
 
@@ -49,7 +51,7 @@ run-in-range (suc n) room s [] h i = i
 run-in-range (suc n) room s (b ∷ bs) h i = go (readBlock s (b ∷ bs)) refl (λ left t rest k j. run-in-range n left t rest k j)
   where
     form : Block → List ℕ
-    form v = normalBytes blocks s v
+    form v = normalBytes blocks normalBlock s v
 
     later : Block → List ℕ → WrittenRun Scene Block
     later v rest = writtenBlocks n (room - length (form v)) (after blocks s v) rest
@@ -64,7 +66,7 @@ run-in-range (suc n) room s (b ∷ bs) h i = go (readBlock s (b ∷ bs)) refl (�
         let t : Taken blocks GoodBlock s (b ∷ bs) v rest = block-lawful .sound s (b ∷ bs) v rest h e in
         keeps (room - length (form v)) (after blocks s v) rest (t .left) (block-range s v (t .good) i)
 
-    go : (q : Result Block) → readBlock s (b ∷ bs) ≡ q → Keeps → inRange (writeOn (normalBytes blocks) room s (b ∷ bs) q later .run .state) ≡ true
+    go : (q : Result Block) → readBlock s (b ∷ bs) ≡ q → Keeps → inRange (writeOn (normalBytes blocks normalBlock) room s (b ∷ bs) q later .run .state) ≡ true
     go (refused k left) e keeps = i
     go (found v rest) e keeps = pick v rest e keeps (ltb room (length (form v)))
 

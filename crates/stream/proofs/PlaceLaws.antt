@@ -7,7 +7,7 @@ use Prim.Native.Nat.{ℕ, _+_, _<_, _≤_}
 use borrow.Author.Tests.{lt-ltb, le-ltb, eq-eqb, ne-eqb}
 use native.Mathlib.Omega.{arith}
 use lib.Dec.{ltb}
-use Rattle.dem.specs.Refusal.{code, shortRoom}
+use Rattle.format.specs.Refusal.{code, shortRoom}
 use Rattle.stream.specs.Pieces.{greatest, placeBehind, refusalPlace}
 
 -- Up to the greatest number the place is the sum.

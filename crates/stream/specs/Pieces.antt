@@ -4,9 +4,10 @@ use mathlib.Core.Bool.{Bool, cond, not, _&&_}
 use Prim.Native.Nat.{ℕ, _+_, _-_}
 use lib.Dec.{ltb, eqb}
 use lib.ListN.{length, take, drop}
-use Rattle.dem.specs.Refusal.{code, cutBlock, shortRoom}
+use Rattle.format.specs.Refusal.{code, cutBlock, shortRoom}
 use Rattle.dem.specs.Scene.{Scene}
-use Rattle.dem.specs.Answer.{Answer, result, atEnd, refusal, Written, Normalised, Rewriting, normalBlocksAt, trackNormal}
+use Rattle.format.specs.Answer.{Answer, result, atEnd, refusal, Written, Normalised, Rewriting}
+use Rattle.dem.specs.Answer.{normalBlocksAt, trackNormal}
 
 -- The number of the piece's bytes that were used, and of those written; the refusal met behind them, 0 for none, and its place.
 pub record Told : Type 0 where

@@ -7,13 +7,13 @@ use Prim.Native.Nat.{ℕ, zero, suc, _+_}
 use native.Mathlib.Omega.{arith}
 use lib.Dec.{eqb}
 use lib.ListN.{length, length-append}
-use Rattle.dem.specs.Limits.{stringLimit}
-use Rattle.dem.specs.Refusal.{wrongNumber}
-use Rattle.dem.specs.Bytes.{unless, free, writeString}
-use Rattle.dem.specs.Layout.{Value, number, text, Layout, done, string, print}
+use Rattle.format.specs.Limits.{stringLimit}
+use Rattle.format.specs.Refusal.{wrongNumber}
+use Rattle.format.specs.Bytes.{unless, free, writeString}
+use Rattle.format.specs.Layout.{Value, number, text, Layout, done, string, print}
 use Rattle.dem.specs.Message.{isEmpty, names}
-use Rattle.dem.proofs.ByteLaws.{StringBytes}
-use Rattle.dem.proofs.LayoutLaws.{Allowed}
+use Rattle.format.proofs.ByteLaws.{StringBytes}
+use Rattle.format.proofs.LayoutLaws.{Allowed}
 use Rattle.strings.specs.Names.{nameStep, namesIn}
 
 name-first : (n : ℕ) (name t rest : List ℕ) → StringBytes n t → namesIn name (writeString t ++ rest) ≡ text (name ++ t) ∷ namesIn [] rest

@@ -6,10 +6,10 @@ use mathlib.Core.Logic.{_≢_}
 use mathlib.Core.List.{List}
 use mathlib.Core.Bool.{Bool, true, false, cond, not}
 use Prim.Native.Nat.{ℕ}
-use Rattle.dem.specs.Bytes.{Bytes, Result, found, refused}
+use Rattle.format.specs.Bytes.{Bytes, Result, found, refused}
 use Rattle.dem.specs.Scene.{Scene as Described, inRange}
 use Rattle.dem.specs.Message.{Message}
-use Rattle.dem.specs.Codec.{readAll}
+use Rattle.format.specs.Codec.{readAll}
 use Rattle.dem.specs.Recording.{messages}
 use Rattle.wire.proofs.FieldLaws.{Held, Fixed}
 use Rattle.scene.specs.declared.Scene.{Scene}

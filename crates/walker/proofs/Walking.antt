@@ -9,18 +9,20 @@ use borrow.Author.Tests.{eqb-true, eqb-false, ltb-true, ltb-false}
 use lib.Dec.{eqb, ltb}
 use lib.ListN.{length, drop, length-drop}
 use lib.Seq.{drop-length}
-use Rattle.dem.specs.Bytes.{Bytes, Result, found, refused, mapResult, bind}
+use Rattle.format.specs.Bytes.{Bytes, Result, found, refused, mapResult, bind}
 use Rattle.dem.specs.Scene.{Scene, inRange}
 use Rattle.dem.specs.Message.{Message, fill, apply}
 use Rattle.dem.specs.WellFormed.{GoodMessage}
-use Rattle.dem.specs.Codec.{readMost, readAll, fillAll, applyAll}
-use Rattle.dem.specs.Recording.{readMessage, messages, placeIn}
-use Rattle.dem.specs.Answer.{Answer, result, atEnd, refusal, Item, Reply, reply, itemOf, messageAt}
-use Rattle.dem.proofs.ResultLaws.{clash}
-use Rattle.dem.proofs.ByteLaws.{drop-bytes}
-use Rattle.dem.proofs.CodecLaws.{shrinks, read-next}
+use Rattle.format.specs.Codec.{readAll, fillAll, applyAll, writeMost}
+use Rattle.format.specs.Answer.{placeIn, Answer, result, atEnd, refusal, Item, Reply, reply, itemOf}
+use Rattle.dem.specs.Recording.{readMessage, messages}
+use Rattle.dem.specs.Answer.{messageAt}
+use Rattle.format.proofs.ResultLaws.{clash}
+use Rattle.format.proofs.ByteLaws.{drop-bytes}
+use Rattle.format.proofs.CodecLaws.{shrinks}
+use Rattle.format.proofs.ReadLaws.{read-next}
 use Rattle.dem.proofs.BlockLaws.{message-lawful}
-use Rattle.dem.proofs.AnswerLaws.{item-wrong, item-end, item-past, item-at, item-next}
+use Rattle.format.proofs.AnswerLaws.{item-wrong, item-end, item-past, item-at, item-next}
 use Rattle.dem.proofs.RangeLaws.{message-range}
 use Rattle.message.specs.declared.Message.{Message as Sent}
 use Rattle.message.specs.Places.{valuesTo}
@@ -163,7 +165,7 @@ module _ (given : Scene) (block : List ℕ) (bytes : Bytes block) (s : Scene) (a
       }
 
   pub ends-well : messageAt s block at .answer ≡ atEnd → walk s n 0 at ≡ walkAll given block
-  unfolding readMost fillAll applyAll
+  unfolding readAll writeMost fillAll applyAll
   ends-well e = go (way s block at)
     where
       go : Way s block at → walk s n 0 at ≡ walkAll given block

@@ -3,13 +3,14 @@ use mathlib.Core.List.{List}
 use mathlib.Core.Bool.{cond, not}
 use Prim.Native.Nat.{ℕ, _+_}
 use lib.ListN.{length}
-use Rattle.dem.specs.Refusal.{code, wrongScene}
-use Rattle.dem.specs.Bytes.{Result, found, refused}
+use Rattle.format.specs.Refusal.{code, wrongScene}
+use Rattle.format.specs.Bytes.{Result, found, refused}
 use Rattle.dem.specs.Scene.{Scene, inRange}
 use Rattle.dem.specs.Message.{Message}
-use Rattle.dem.specs.Codec.{readAll, fillAll, applyAll}
-use Rattle.dem.specs.Recording.{messages, placeIn}
-use Rattle.dem.specs.Answer.{Answer, result, atEnd, refusal, Item, Reply, messageAt}
+use Rattle.format.specs.Codec.{readAll, fillAll, applyAll}
+use Rattle.format.specs.Answer.{placeIn, Answer, result, atEnd, refusal, Item, Reply}
+use Rattle.dem.specs.Recording.{messages}
+use Rattle.dem.specs.Answer.{messageAt}
 use Rattle.scene.specs.Views.{sceneOf}
 use Rattle.cobbrundle.specs.declared.MessageAnswer.{MessageAnswer}
 use Rattle.cobbrundle.specs.declared.MessageAnswer.the-variants.{Found, End, Refused}

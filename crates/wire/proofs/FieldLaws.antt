@@ -18,7 +18,7 @@ use denote.Struct.Field.{Field, rows, uint-field, sint-field, bool-field, array-
 use denote.Struct.Values.{Values, intos}
 use denote.Struct.Declared.{field}
 use denote.Struct.Record.{Record, Propositions, declared}
-use Rattle.dem.specs.Bytes.{isSet, bitOf}
+use Rattle.format.specs.Bytes.{isSet, bitOf}
 
 -- Code can hold this value: its type relates it to some machine values.
 abbrev pub Held : (R : RattleType) → R .Denot → Type 0

@@ -2,7 +2,7 @@
 -- Assumes nothing.
 use mathlib.Core.Path.{refl, sym, ap₂, _∙_}
 use mathlib.Core.Bool.{Bool, not, _||_, or-false}
-use Rattle.dem.specs.Bytes.{bit}
+use Rattle.format.specs.Bytes.{bit}
 use Rattle.allowed.specs.Tests.{clientTest}
 use Rattle.allowed.proofs.MaskTests.{both, flag}
 use borrow.Author.Needs.{needs}

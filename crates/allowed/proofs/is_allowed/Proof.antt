@@ -10,7 +10,7 @@ use lib.Dec.{ltb}
 use denote.Enum.Declared.{tagOf}
 use denote.Enum.Laws.{owed}
 use types.Run.{OneOf, miss}
-use Rattle.dem.specs.Layout.{allows}
+use Rattle.format.specs.Layout.{allows}
 use Rattle.dem.specs.Message.{layout}
 use Rattle.message.specs.Values.{valuesBy}
 use Rattle.message.specs.declared.Entity.{Entity}

@@ -7,7 +7,7 @@ use native.Mathlib.Omega.{arith}
 use borrow.Author.Needs.{needs}
 use lib.Seq.{length-take-le}
 use Rattle.dem.specs.Limits.{nameLimit}
-use Rattle.dem.proofs.ByteLaws.{bytes-of}
+use Rattle.format.proofs.ByteLaws.{bytes-of}
 use Rattle.allowed.proofs.NameTests.{lists-outside, lists-refused, lists-found}
 use Rattle.allowed.proofs.names_are_lists.Statement.{statement}
 use Rattle.allowed.proofs.names_are_lists.Tie as tie

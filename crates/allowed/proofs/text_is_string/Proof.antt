@@ -7,8 +7,8 @@ use Prim.Native.Nat.{_+_, _-_, _≤_}
 use native.Mathlib.Omega.{arith}
 use borrow.Author.Tests.{ne-eqb}
 use lib.ListN.{length}
-use Rattle.dem.specs.Limits.{stringLimit}
-use Rattle.dem.specs.Layout.{stringBytes}
+use Rattle.format.specs.Limits.{stringLimit}
+use Rattle.format.specs.Layout.{stringBytes}
 use Rattle.strings.proofs.Places.{placed-inside}
 use Rattle.wire.specs.Cursors.{textIn, placed}
 use Rattle.allowed.proofs.StringTests.{placed-outside, string-long, textIn-length, left, left-whole}

@@ -6,7 +6,7 @@ use Prim.Native.Nat.{_-_, _≤_}
 use native.Mathlib.Omega.{arith}
 use borrow.Author.Needs.{needs}
 use lib.ListN.{length}
-use Rattle.dem.specs.Bytes.{bitOf}
+use Rattle.format.specs.Bytes.{bitOf}
 use Rattle.blocks.proofs.Marks.{Made, made-more, made-all}
 use Rattle.blocks.proofs.marks_of.Statement.{statement}
 use Rattle.blocks.proofs.marks_of.Tie as tie

@@ -4,9 +4,9 @@ use mathlib.Core.Path.{ap, _∙_}
 use lib.ListN.{length, drop}
 use borrow.Author.Needs.{needs}
 use Rattle.dem.specs.Scene.{Scene}
-use Rattle.dem.specs.Codec.{WrittenRun}
+use Rattle.format.specs.Codec.{WrittenRun}
 use Rattle.dem.specs.Recording.{Block, blocks}
-use Rattle.dem.proofs.WrittenLaws.{written-none}
+use Rattle.format.proofs.WrittenLaws.{written-none}
 use Rattle.scene.specs.Views.{sceneOf}
 use Rattle.blocks.specs.Runs.{Wrote, toldWith}
 use Rattle.blocks.proofs.read_blocks.Statement.{statement}

@@ -16,9 +16,9 @@ use lib.Dec.{ltb}
 use borrow.Author.Tests.{leb-true, ltb-true, not-true}
 use mathlib.Core.Logic.{_≢_}
 use mathlib.Core.List.{List, [], _∷_, _++_}
-use Rattle.dem.specs.Bytes.{Bytes, Result, refused, leWrite, bit}
+use Rattle.format.specs.Bytes.{Bytes, Result, refused, leWrite, bit}
 use Rattle.dem.specs.Kind
-use Rattle.dem.specs.Layout.{Value, number, print}
+use Rattle.format.specs.Layout.{Value, number, print}
 use Rattle.dem.specs.Scene.{Scene, Context, contextOf, inRange}
 use Rattle.dem.specs.Limits.{entityCount}
 use Rattle.dem.specs.Message.{Message, isMessage, layoutIn, updateSlots, sendUpdate, sendClient}
@@ -27,11 +27,11 @@ use Rattle.wire.specs.declared.Cursor.{Cursor}
 use Rattle.wire.proofs.Sticky.{here}
 use Rattle.message.specs.Values.{valuesOf, soundValues, updateValues}
 use Rattle.parts.specs.Kinds.{kindAt, contextOf as numbersOf}
-use Rattle.dem.specs.Codec.{readAll}
+use Rattle.format.specs.Codec.{readAll}
 use Rattle.dem.specs.Recording.{angleLayout, readMessage, messages, readBlock}
-use Rattle.dem.proofs.ResultLaws.{clash}
-use Rattle.dem.proofs.LayoutLaws.{and-true}
-use Rattle.dem.proofs.ByteLaws.{bytes-of, take-bytes}
+use Rattle.format.proofs.ResultLaws.{clash}
+use Rattle.format.proofs.LayoutLaws.{and-true}
+use Rattle.format.proofs.ByteLaws.{bytes-of, take-bytes}
 use Rattle.dem.proofs.RangeLaws.{range→}
 use Rattle.heads.proofs.HeadLaws.{block-ended}
 use Rattle.scene.specs.Views.{sceneWith, sceneOf, baselineNumbers, recordValues, clientValues}

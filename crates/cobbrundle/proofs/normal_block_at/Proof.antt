@@ -8,9 +8,9 @@ use native.Mathlib.Omega.{arith}
 use borrow.Author.Needs.{needs}
 use borrow.Author.Tests.{not-true, not-false}
 use lib.ListN.{length}
-use Rattle.dem.specs.Bytes.{Bytes}
+use Rattle.format.specs.Bytes.{Bytes}
 use Rattle.dem.specs.Scene.{inRange}
-use Rattle.dem.proofs.ByteLaws.{bytes-of}
+use Rattle.format.proofs.ByteLaws.{bytes-of}
 use Rattle.scene.specs.Views.{sceneOf, baselineNumbers, recordNumbers}
 use Rattle.cobbrundle.proofs.NormalForms.{normal-wrong, normal-end, normal-past, normal-refused, normal-written}
 use Rattle.cobbrundle.proofs.normal_block_at.Statement.{statement}

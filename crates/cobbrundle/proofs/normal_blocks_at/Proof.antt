@@ -7,10 +7,10 @@ use mathlib.Core.Bool.{true}
 use Prim.Native.Nat.{zero-le}
 use borrow.Author.Needs.{needs}
 use borrow.Author.Tests.{not-true, not-false}
-use Rattle.dem.specs.Bytes.{Bytes}
+use Rattle.format.specs.Bytes.{Bytes}
 use Rattle.dem.specs.Scene.{Scene, inRange}
-use Rattle.dem.specs.Answer.{Reply, Rewriting, written}
-use Rattle.dem.proofs.ByteLaws.{bytes-of}
+use Rattle.format.specs.Answer.{Reply, Rewriting, written}
+use Rattle.format.proofs.ByteLaws.{bytes-of}
 use Rattle.scene.specs.Views.{sceneOf, baselineNumbers, recordNumbers}
 use Rattle.cobbrundle.proofs.NormalForms.{rewrite-wrong, rewrite-past, rewritten-once, rewritten-twice}
 use Rattle.cobbrundle.proofs.normal_blocks_at.Statement.{statement}

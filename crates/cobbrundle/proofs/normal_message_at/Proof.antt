@@ -3,7 +3,7 @@
 use mathlib.Core.Path.{_∙_}
 use Prim.Native.Nat.{_+_, _-_, _≤_}
 use lib.ListN.{length}
-use Rattle.dem.proofs.ByteLaws.{bytes-of}
+use Rattle.format.proofs.ByteLaws.{bytes-of}
 use Rattle.cobbrundle.specs.declared.MessageAnswer.the-variants.{End, Refused}
 use Rattle.cobbrundle.proofs.Forms.{answered, place-after, as-read, anew}
 use borrow.Author.Needs.{needs}

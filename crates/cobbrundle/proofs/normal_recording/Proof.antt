@@ -6,10 +6,10 @@ use Prim.Native.Nat.{ℕ, _+_, _<_, _≤_}
 use native.Mathlib.Omega.{arith}
 use borrow.Author.Needs.{needs}
 use lib.ListN.{length}
-use Rattle.dem.specs.Bytes.{Bytes}
+use Rattle.format.specs.Bytes.{Bytes}
 use Rattle.dem.specs.Scene.{Scene}
-use Rattle.dem.specs.Answer.{refusal, reply, written}
-use Rattle.dem.proofs.ByteLaws.{bytes-of}
+use Rattle.format.specs.Answer.{refusal, reply, written}
+use Rattle.format.proofs.ByteLaws.{bytes-of}
 use Rattle.cobbrundle.proofs.Normals.{recording-wrong, number-small, counted-short, blocks-wrong, recording-roomless, recording-written}
 use Rattle.cobbrundle.proofs.normal_recording.Statement.{statement}
 use Rattle.cobbrundle.proofs.normal_recording.Tie as tie

@@ -5,9 +5,9 @@ use mathlib.Core.List.{List}
 use Prim.Native.Nat.{ℕ}
 use native.Mathlib.Omega.{arith}
 use borrow.Author.Needs.{needs}
-use Rattle.dem.specs.Bytes.{Bytes}
-use Rattle.dem.specs.Answer.{result, reply, written}
-use Rattle.dem.proofs.ByteLaws.{bytes-of}
+use Rattle.format.specs.Bytes.{Bytes}
+use Rattle.format.specs.Answer.{result, reply, written}
+use Rattle.format.proofs.ByteLaws.{bytes-of}
 use Rattle.cobbrundle.proofs.Normals.{line-wrong, number-small, line-roomless, line-written}
 use Rattle.cobbrundle.proofs.normal_track.Statement.{statement}
 use Rattle.cobbrundle.proofs.normal_track.Tie as tie

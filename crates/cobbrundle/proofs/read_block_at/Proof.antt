@@ -8,11 +8,11 @@ use native.Mathlib.Omega.{arith}
 use borrow.Author.Needs.{needs}
 use borrow.Author.Tests.{not-true, not-false}
 use lib.ListN.{length}
-use Rattle.dem.specs.Bytes.{Bytes}
+use Rattle.format.specs.Bytes.{Bytes}
 use Rattle.dem.specs.Scene.{inRange}
 use Rattle.dem.specs.Recording.{blocks}
-use Rattle.dem.proofs.ByteLaws.{bytes-of}
-use Rattle.dem.proofs.AnswerLaws.{item-wrong, item-end, item-past}
+use Rattle.format.proofs.ByteLaws.{bytes-of}
+use Rattle.format.proofs.AnswerLaws.{item-wrong, item-end, item-past}
 use Rattle.scene.specs.Views.{sceneOf, baselineNumbers, recordNumbers}
 use Rattle.cobbrundle.proofs.Recordings.{outlined, outline-refused, outline-found}
 use Rattle.cobbrundle.proofs.read_block_at.Statement.{statement}

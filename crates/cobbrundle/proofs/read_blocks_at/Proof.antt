@@ -6,9 +6,9 @@ use mathlib.Core.List.{map}
 use mathlib.Core.Bool.{true}
 use borrow.Author.Needs.{needs}
 use borrow.Author.Tests.{not-true, not-false}
-use Rattle.dem.specs.Bytes.{Bytes}
+use Rattle.format.specs.Bytes.{Bytes}
 use Rattle.dem.specs.Scene.{inRange}
-use Rattle.dem.proofs.ByteLaws.{bytes-of}
+use Rattle.format.proofs.ByteLaws.{bytes-of}
 use Rattle.scene.specs.Views.{sceneOf, baselineNumbers, recordNumbers}
 use Rattle.cobbrundle.proofs.Recordings.{blocks-wrong, blocks-past, blocks-once, blocks-twice}
 use Rattle.cobbrundle.proofs.read_blocks_at.Statement.{statement}

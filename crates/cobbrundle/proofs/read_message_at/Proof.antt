@@ -8,14 +8,14 @@ use native.Mathlib.Omega.{arith}
 use borrow.Author.Needs.{needs}
 use borrow.Author.Tests.{not-true, not-false}
 use lib.ListN.{length, length-drop}
-use Rattle.dem.specs.Layout.{Value}
+use Rattle.format.specs.Layout.{Value}
 use Rattle.dem.specs.Scene.{Scene, Context, inRange}
 use Rattle.dem.specs.Message.{layout, layoutIn}
 use Rattle.dem.specs.Recording.{messages}
-use Rattle.dem.specs.Answer.{Reply, reply, result, Item}
-use Rattle.dem.proofs.ByteLaws.{bytes-of}
+use Rattle.format.specs.Answer.{Reply, reply, result, Item}
+use Rattle.format.proofs.ByteLaws.{bytes-of}
 use Rattle.dem.proofs.RangeLaws.{range→}
-use Rattle.dem.proofs.AnswerLaws.{item-wrong, item-end, item-past}
+use Rattle.format.proofs.AnswerLaws.{item-wrong, item-end, item-past}
 use Rattle.wire.specs.Cursors.{placed, parseAt}
 use Rattle.wire.proofs.Sticky.{here}
 use Rattle.message.specs.Values.{valuesOf}

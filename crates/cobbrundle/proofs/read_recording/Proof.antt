@@ -7,12 +7,12 @@ use lib.ListN.{length, drop}
 use mir.Syntax.{w16}
 use mir.ValLaws.{toZ-ofZ}
 use borrow.Author.Needs.{needs}
-use Rattle.dem.specs.Bytes.{Bytes}
+use Rattle.format.specs.Bytes.{Bytes}
 use Rattle.dem.specs.Scene.{Scene, fresh, inRange}
-use Rattle.dem.specs.Codec.{runMost}
+use Rattle.format.specs.Codec.{runMost}
 use Rattle.dem.specs.Recording.{blocks}
-use Rattle.dem.specs.Answer.{result, refusal, reply}
-use Rattle.dem.proofs.ByteLaws.{bytes-of}
+use Rattle.format.specs.Answer.{result, refusal, reply}
+use Rattle.format.proofs.ByteLaws.{bytes-of}
 use Rattle.dem.proofs.RangeLaws.{fresh-range}
 use Rattle.scene.specs.Views.{sceneOf}
 use Rattle.blocks.specs.Runs.{toldOf, answered}

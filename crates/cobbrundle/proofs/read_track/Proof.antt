@@ -5,7 +5,7 @@ use borrow.Author.Needs.{needs}
 use lib.IntN.{ℤ}
 use mir.Syntax.{w16}
 use mir.ValLaws.{toZ-ofZ}
-use Rattle.dem.specs.Answer.{result}
+use Rattle.format.specs.Answer.{result}
 use Rattle.cobbrundle.proofs.Recordings.{track-wrong, track-read}
 use Rattle.cobbrundle.proofs.read_track.Statement.{statement}
 use Rattle.cobbrundle.proofs.read_track.Tie as tie

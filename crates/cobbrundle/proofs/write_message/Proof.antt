@@ -7,7 +7,7 @@ use native.Mathlib.Omega.{arith}
 use borrow.Author.Needs.{needs}
 use borrow.Author.Tests.{not-true, not-false}
 use lib.ListN.{length}
-use Rattle.dem.specs.Layout.{print, allows}
+use Rattle.format.specs.Layout.{print, allows}
 use Rattle.dem.specs.Scene.{Context, contextOf, inRange}
 use Rattle.dem.specs.Message.{layout, layoutIn}
 use Rattle.dem.proofs.RangeLaws.{range→}

@@ -6,7 +6,8 @@ use mir.Syntax.{w16}
 use mir.ValLaws.{toZ-ofZ}
 use borrow.Author.Needs.{needs}
 use Rattle.dem.specs.Scene.{Scene}
-use Rattle.dem.specs.Answer.{Reply, Summary, whole}
+use Rattle.format.specs.Answer.{Reply}
+use Rattle.dem.specs.Answer.{Summary, whole}
 use Rattle.cobbrundle.specs.Replies.{recordingAnswerOf}
 use Rattle.cobbrundle.specs.declared.RecordingAnswer.{RecordingAnswer}
 use Rattle.exports.specs.Numbers.{checked, checkedBy}

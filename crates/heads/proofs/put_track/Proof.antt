@@ -7,7 +7,7 @@ use borrow.Author.Needs.{needs}
 use lib.ListN.{length, length-set}
 use lib.Seq.{sets, length-sets}
 use Rattle.dem.specs.Track.{normalTrack, writeTrack}
-use Rattle.dem.proofs.ListLaws.{sets-front}
+use Rattle.format.proofs.ListLaws.{sets-front}
 use Rattle.heads.proofs.NormalLaws.{line, same-magnitude}
 use Rattle.heads.proofs.put_track.Statement.{statement}
 use Rattle.heads.proofs.put_track.Tie as tie

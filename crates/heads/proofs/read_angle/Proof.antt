@@ -4,9 +4,9 @@ use mathlib.Core.Path.{ap, _∙_}
 use mathlib.Core.Bool.{Bool, not, Bool·not-not}
 use borrow.Author.Needs.{needs}
 use lib.Dec.{lit<}
-use Rattle.dem.specs.Bytes.{unless}
-use Rattle.dem.specs.Refusal.{wrongAngle}
-use Rattle.dem.specs.Scene.{isFinite}
+use Rattle.format.specs.Bytes.{unless}
+use Rattle.format.specs.Refusal.{wrongAngle}
+use Rattle.format.specs.Floats.{isFinite}
 use Rattle.wire.specs.Cursors.{gotten, numberAt, ruled}
 use Rattle.wire.proofs.Sticky.{reads-ruled}
 use Rattle.heads.proofs.read_angle.Statement.{statement}

@@ -4,7 +4,7 @@ use mathlib.Core.Path.{ap, _∙_}
 use Prim.Native.Nat.{ℕ}
 use native.Mathlib.Omega.{arith}
 use borrow.Author.Needs.{needs}
-use Rattle.dem.proofs.ByteLaws.{bytes-of}
+use Rattle.format.proofs.ByteLaws.{bytes-of}
 use Rattle.heads.specs.Heads.{headOf, headRefusal}
 use Rattle.heads.proofs.HeadLaws.{head-read, head-fits}
 use Rattle.heads.proofs.read_head.Statement.{statement}

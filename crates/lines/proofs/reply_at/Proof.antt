@@ -4,7 +4,7 @@ use mathlib.Core.Path.{_∙_}
 use native.Mathlib.Omega.{arith}
 use lib.ListN.{length-map}
 use borrow.Author.Needs.{needs}
-use Rattle.dem.proofs.ByteLaws.{bytes-of}
+use Rattle.format.proofs.ByteLaws.{bytes-of}
 use Rattle.scene.specs.Views.{lineOf, sceneWith, sceneOf}
 use Rattle.scene.proofs.Ranges.{length-of}
 use Rattle.lines.proofs.Brought.{refused-lent, told-lent}

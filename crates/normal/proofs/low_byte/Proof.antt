@@ -3,7 +3,7 @@
 use native.Mathlib.Omega.{arith}
 use mathlib.Core.Path.{ap}
 use Prim.Native.Nat.{ℕ}
-use Rattle.dem.specs.Bytes.{isSet, bitOf}
+use Rattle.format.specs.Bytes.{isSet, bitOf}
 use Rattle.normal.proofs.UpdateBytes.{set-test}
 use borrow.Author.Needs.{needs}
 use Rattle.normal.proofs.low_byte.Statement.{statement}

@@ -1,7 +1,7 @@
 -- `normal::put_counts` meets its contract: each byte is sent.
 -- Assumes nothing.
 use mathlib.Core.List.{[], _∷_}
-use Rattle.dem.specs.Masked.{sentAlways}
+use Rattle.format.specs.Masked.{sentAlways}
 use lib.ListN.{drop}
 use Rattle.message.specs.Values.{suppliesValues}
 use Rattle.normal.proofs.PutLaws.{PutSlots, slot-then, slots-none}

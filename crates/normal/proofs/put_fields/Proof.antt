@@ -2,8 +2,8 @@
 -- Assumes nothing.
 use mathlib.Core.Path.{refl}
 use mathlib.Core.List.{_∷_}
-use Rattle.dem.specs.Layout.{number}
-use Rattle.dem.specs.Masked.{slot}
+use Rattle.format.specs.Layout.{number}
+use Rattle.format.specs.Masked.{slot}
 use Rattle.message.specs.Values.{lookValues}
 use Rattle.normal.specs.Sent.{bitsValues, lookSlots, poseSlots}
 use Rattle.normal.proofs.PutLaws.{PutSlots, slots-then, slot-then}

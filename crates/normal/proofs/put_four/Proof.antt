@@ -2,7 +2,7 @@
 -- Assumes nothing.
 use native.Mathlib.Omega.{arith}
 use mathlib.Core.List.{[], _∷_}
-use Rattle.dem.specs.Layout.{number}
+use Rattle.format.specs.Layout.{number}
 use Rattle.normal.specs.Client.{fourSlots}
 use Rattle.normal.proofs.PutLaws.{PutSlots, slot-then, slots-none}
 use borrow.Author.Needs.{needs}

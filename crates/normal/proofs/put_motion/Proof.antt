@@ -3,7 +3,7 @@
 use native.Mathlib.Omega.{arith}
 use mathlib.Core.Path.{refl}
 use mathlib.Core.List.{[], _∷_}
-use Rattle.dem.specs.Layout.{number}
+use Rattle.format.specs.Layout.{number}
 use Rattle.normal.specs.Client.{fourSlots}
 use Rattle.normal.proofs.PutLaws.{slots-then}
 use borrow.Author.Needs.{needs}

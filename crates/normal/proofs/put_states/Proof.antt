@@ -3,7 +3,7 @@
 use mathlib.Core.Path.{refl}
 use mathlib.Core.List.{[], _∷_}
 use lib.ListN.{take, drop}
-use Rattle.dem.specs.Layout.{number}
+use Rattle.format.specs.Layout.{number}
 use Rattle.dem.specs.Message.{clientSlots}
 use Rattle.message.specs.Values.{armsValues}
 use Rattle.normal.specs.Sent.{sentBytes}

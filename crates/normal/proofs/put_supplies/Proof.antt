@@ -3,7 +3,7 @@
 use mathlib.Core.Path.{refl, ap, _∙_}
 use mir.Syntax.{w16}
 use mir.Val.{ofZ}
-use Rattle.dem.specs.Bytes.{leWrite}
+use Rattle.format.specs.Bytes.{leWrite}
 use Rattle.wire.proofs.SignedLaws.{same-bits}
 use Rattle.normal.specs.Client.{countsBytes}
 use Rattle.normal.proofs.PutLaws.{put-same, put-then}

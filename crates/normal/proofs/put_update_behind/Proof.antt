@@ -6,7 +6,7 @@ use native.Mathlib.Omega.{arith}
 use lib.ListN.{take, drop}
 use borrow.Author.Needs.{needs}
 use borrow.Author.Tests.{not-true, not-false}
-use Rattle.dem.specs.Layout.{number, print}
+use Rattle.format.specs.Layout.{number, print}
 use Rattle.dem.specs.Message.{layout, sendUpdate}
 use Rattle.scene.specs.Views.{baselineNumbers, recordValues}
 use Rattle.normal.proofs.PutLaws.{taken-most, behind-nothing, behind-put}

@@ -3,8 +3,8 @@
 use mathlib.Core.Path.{refl, _∙_}
 use mathlib.Core.List.{[], _∷_}
 use mir.Syntax.{w16}
-use Rattle.dem.specs.Layout.{number}
-use Rattle.dem.specs.Masked.{sentAlways}
+use Rattle.format.specs.Layout.{number}
+use Rattle.format.specs.Masked.{sentAlways}
 use Rattle.message.specs.Values.{vectorValues}
 use Rattle.wire.proofs.SignedLaws.{same-bits}
 use Rattle.normal.specs.Sent.{sentBytes}

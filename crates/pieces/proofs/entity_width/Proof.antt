@@ -4,7 +4,7 @@ use mathlib.Core.Path.{refl, sym, ap}
 use mathlib.Core.Bool.{Bool}
 use Prim.Native.Nat.{suc}
 use borrow.Author.Needs.{needs}
-use Rattle.dem.specs.Bytes.{bitOf}
+use Rattle.format.specs.Bytes.{bitOf}
 use Rattle.pieces.proofs.PrintLaws.{bit-taken}
 use Rattle.pieces.proofs.entity_width.Statement.{statement}
 use Rattle.pieces.proofs.entity_width.Tie as tie

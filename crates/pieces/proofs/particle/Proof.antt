@@ -3,7 +3,7 @@
 use mathlib.Core.Path.{ap, _∙_}
 use mir.Syntax.{w8}
 use borrow.Author.Needs.{needs}
-use Rattle.dem.specs.Layout.{print}
+use Rattle.format.specs.Layout.{print}
 use Rattle.dem.specs.Message.{layout, kindLayout}
 use Rattle.pieces.specs.Bytes.{bytesOf}
 use Rattle.pieces.proofs.PrintLaws.{handed}

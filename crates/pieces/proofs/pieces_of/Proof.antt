@@ -4,10 +4,10 @@
 use mathlib.Core.Path.{refl, _∙_}
 use mir.Syntax.{w8, w16, w32}
 use borrow.Author.Needs.{needs}
-use Rattle.dem.specs.Bytes.{writeString}
-use Rattle.dem.specs.Layout.{print}
+use Rattle.format.specs.Bytes.{writeString}
+use Rattle.format.specs.Layout.{print}
 use Rattle.dem.specs.Message.{layout, kindLayout}
-use Rattle.dem.proofs.LayoutLaws.{allows→}
+use Rattle.format.proofs.LayoutLaws.{allows→}
 use Rattle.wire.proofs.SignedLaws.{same-bits}
 use Rattle.pieces.specs.Bytes.{bytesOf}
 use Rattle.pieces.proofs.PrintLaws.{handed}

@@ -5,7 +5,7 @@ use Prim.Native.Nat.{_+_, _-_, _%_, _≤_}
 use borrow.Author.Needs.{needs}
 use lib.ListN.{length, length-set}
 use lib.Seq.{sets}
-use Rattle.dem.specs.Bytes.{leWrite}
+use Rattle.format.specs.Bytes.{leWrite}
 use Rattle.pieces.proofs.RoomLaws.{number-start, number-more, number-none}
 use Rattle.pieces.proofs.put_number.Statement.{statement}
 use Rattle.pieces.proofs.put_number.Tie as tie

@@ -6,7 +6,7 @@ use native.Mathlib.Omega.{arith}
 use borrow.Author.Needs.{needs}
 use lib.ListN.{length, getD, take, drop}
 use lib.Seq.{sets, length-sets}
-use Rattle.dem.proofs.ListLaws.{sets-front}
+use Rattle.format.proofs.ListLaws.{sets-front}
 use Rattle.pieces.specs.Bytes.{numberPiece, bytesOf, run, piecesBytes}
 use Rattle.pieces.proofs.RoomLaws.{size-more, pieces-none, pieces-all, text-length, step-length, step-size, step-room}
 use Rattle.pieces.proofs.put_pieces.Statement.{statement}

@@ -5,9 +5,9 @@ use mathlib.Core.List.{_∷_}
 use mathlib.Core.Bool.{true}
 use borrow.Author.Needs.{needs}
 use Rattle.dem.specs.Kind
-use Rattle.dem.specs.Layout.{number, print, allows}
+use Rattle.format.specs.Layout.{number, print, allows}
 use Rattle.dem.specs.Message.{layout}
-use Rattle.dem.proofs.LayoutLaws.{allows→}
+use Rattle.format.proofs.LayoutLaws.{allows→}
 use Rattle.message.specs.Values.{temporaryValues}
 use Rattle.message.specs.declared.Temporary.{Temporary}
 use Rattle.pieces.specs.Bytes.{bytesOf, listOf}

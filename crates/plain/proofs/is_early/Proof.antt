@@ -3,7 +3,7 @@
 use mathlib.Core.Path.{ap, sym, _∙_}
 use mathlib.Core.Bool.{not}
 use borrow.Author.Needs.{needs}
-use Rattle.dem.specs.Message.{notBefore}
+use Rattle.format.specs.Floats.{notBefore}
 use Rattle.message.specs.declared.Time.{Time}
 use Rattle.message.specs.Values.{timeOf}
 use Rattle.plain.proofs.Rules.{time-early}

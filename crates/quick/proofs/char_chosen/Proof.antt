@@ -8,7 +8,7 @@ use lib.Dec.{eqb}
 use lib.ListN.{getD}
 use mir.Syntax.{w8}
 use mir.Val.{ofZ}
-use Rattle.dem.proofs.AtLaws.{one-at}
+use Rattle.format.proofs.AtLaws.{one-at}
 use Rattle.quick.proofs.Fields.{field-chosen}
 use Rattle.wire.proofs.SignedLaws.{same-bits}
 use borrow.Author.Needs.{needs}

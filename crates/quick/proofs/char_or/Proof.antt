@@ -8,8 +8,8 @@ use lib.Dec.{eqb}
 use lib.ListN.{getD}
 use mir.Syntax.{w8}
 use mir.Val.{ofZ}
-use Rattle.dem.specs.Bytes.{bit}
-use Rattle.dem.proofs.AtLaws.{one-at}
+use Rattle.format.specs.Bytes.{bit}
+use Rattle.format.proofs.AtLaws.{one-at}
 use Rattle.quick.proofs.Fields.{bit-set, bit-clear, field-sent, field-other}
 use Rattle.wire.proofs.SignedLaws.{same-bits}
 use borrow.Author.Needs.{needs}

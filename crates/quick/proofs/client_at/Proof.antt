@@ -6,8 +6,8 @@ use mathlib.Core.Bool.{true≢false}
 use Prim.Native.Nat.{_+_, _≤_}
 use native.Mathlib.Omega.{arith}
 use lib.ListN.{length}
-use Rattle.dem.specs.Bytes.{mapResult, bit}
-use Rattle.dem.specs.Layout.{Value, number, tail}
+use Rattle.format.specs.Bytes.{mapResult, bit}
+use Rattle.format.specs.Layout.{Value, number, tail}
 use Rattle.dem.specs.Message.{fillClient}
 use Rattle.message.specs.Values.{clientValues}
 use Rattle.wire.specs.Cursors.{gotten}

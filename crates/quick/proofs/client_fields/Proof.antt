@@ -6,9 +6,9 @@ use Prim.Native.Nat.{_+_}
 use native.Mathlib.Omega.{arith}
 use lib.ListN.{take, drop}
 use mir.Syntax.{w32}
-use Rattle.dem.specs.Bytes.{bit, bitOf}
-use Rattle.dem.specs.Layout.{number}
-use Rattle.dem.specs.Masked.{sentAlways}
+use Rattle.format.specs.Bytes.{bit, bitOf}
+use Rattle.format.specs.Layout.{number}
+use Rattle.format.specs.Masked.{sentAlways}
 use Rattle.dem.specs.Message.{clientSlots}
 use Rattle.masked.proofs.MaskLaws.{bit-test}
 use Rattle.message.specs.Values.{motionValues, armsValues, suppliesValues}

@@ -5,7 +5,7 @@ use Prim.Native.Nat.{ℕ, _+_}
 use native.Mathlib.Omega.{arith}
 use lib.ListN.{getD}
 use mir.Syntax.{w32}
-use Rattle.dem.proofs.AtLaws.{two-at, four-at}
+use Rattle.format.proofs.AtLaws.{two-at, four-at}
 use Rattle.wire.proofs.SignedLaws.{same-bits}
 use borrow.Author.Needs.{needs}
 use Rattle.quick.proofs.long_in.Statement.{statement}

@@ -5,8 +5,8 @@ use native.Mathlib.Omega.{arith}
 use lib.ListN.{take, drop}
 use mir.Syntax.{w8}
 use Rattle.dem.specs.Limits.{defaultViewHeight}
-use Rattle.dem.specs.Bytes.{bit}
-use Rattle.dem.specs.Masked.{slot}
+use Rattle.format.specs.Bytes.{bit}
+use Rattle.format.specs.Masked.{slot}
 use Rattle.dem.specs.Message.{clientSlots}
 use Rattle.wire.proofs.SignedLaws.{same-bits}
 use Rattle.quick.proofs.Fields.{slot-then}

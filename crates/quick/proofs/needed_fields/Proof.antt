@@ -4,8 +4,8 @@ use mathlib.Core.Path.{_≡_, refl, _∙_}
 use mathlib.Core.List.{List, _∷_, _++_}
 use Prim.Native.Nat.{ℕ}
 use mathlib.Core.Bool.{false}
-use Rattle.dem.specs.Bytes.{bit, bitOf}
-use Rattle.dem.specs.Layout.{Value, number}
+use Rattle.format.specs.Bytes.{bit, bitOf}
+use Rattle.format.specs.Layout.{Value, number}
 use Rattle.dem.specs.Message.{recordBit}
 use Rattle.message.specs.Values.{poseValues}
 use Rattle.quick.specs.Spread.{spread, passed, lookSlots, lookOf, poseSlots}

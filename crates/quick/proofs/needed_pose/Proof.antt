@@ -8,8 +8,8 @@ use lib.ListN.{drop}
 use native.Mathlib.Omega.{arith}
 use mir.Syntax.{w8, w16}
 use borrow.Author.Needs.{needs}
-use Rattle.dem.specs.Bytes.{bit}
-use Rattle.dem.specs.Masked.{Slot}
+use Rattle.format.specs.Bytes.{bit}
+use Rattle.format.specs.Masked.{Slot}
 use Rattle.quick.specs.declared.PoseOr.{PoseOr}
 use Rattle.quick.specs.Spread.{poseSlots, needlessIn}
 use Rattle.quick.proofs.Fields.{pose-each, needless-stays, signed-flag}

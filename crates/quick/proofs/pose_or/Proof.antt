@@ -1,6 +1,6 @@
 -- `quick::pose_or` meets its contract: its fields follow the slots one by one.
 -- Assumes nothing.
-use Rattle.dem.specs.Bytes.{bit}
+use Rattle.format.specs.Bytes.{bit}
 use Rattle.quick.proofs.Fields.{pose-each}
 use native.Mathlib.Omega.{arith}
 use borrow.Author.Needs.{needs}

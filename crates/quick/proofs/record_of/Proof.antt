@@ -1,8 +1,8 @@
 -- `quick::record_of` meets its contract: bit 5, then what is handed in.
 -- Assumes nothing.
 use mathlib.Core.List.{_∷_, _++_}
-use Rattle.dem.specs.Bytes.{bitOf}
-use Rattle.dem.specs.Layout.{number}
+use Rattle.format.specs.Bytes.{bitOf}
+use Rattle.format.specs.Layout.{number}
 use Rattle.message.specs.Values.{poseValues}
 use Rattle.quick.specs.Spread.{lookOf}
 use Rattle.masked.proofs.MaskLaws.{bit-test}

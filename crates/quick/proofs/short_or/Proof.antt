@@ -7,7 +7,7 @@ use native.Mathlib.Omega.{arith}
 use lib.Dec.{eqb}
 use mir.Syntax.{w16}
 use mir.Val.{ofZ}
-use Rattle.dem.specs.Bytes.{bit}
+use Rattle.format.specs.Bytes.{bit}
 use Rattle.quick.proofs.Fields.{bit-set, bit-clear, field-sent, field-other}
 use Rattle.wire.proofs.SignedLaws.{same-bits}
 use borrow.Author.Needs.{needs}

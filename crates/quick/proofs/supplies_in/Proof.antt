@@ -7,9 +7,9 @@ use Prim.Native.Nat.{ℕ, _+_, _<_}
 use native.Mathlib.Omega.{arith}
 use lib.ListN.{length, take, drop, getD}
 use mir.Syntax.{w16}
-use Rattle.dem.specs.Bytes.{leRead}
-use Rattle.dem.specs.Masked.{sentAlways}
-use Rattle.dem.proofs.AtLaws.{one-at}
+use Rattle.format.specs.Bytes.{leRead}
+use Rattle.format.specs.Masked.{sentAlways}
+use Rattle.format.proofs.AtLaws.{one-at}
 use Rattle.wire.proofs.SignedLaws.{same-bits}
 use Rattle.quick.specs.Spread.{suppliesSlots}
 use Rattle.quick.proofs.Fields.{slot-always}

@@ -3,8 +3,8 @@
 use mathlib.Core.Path.{_∙_}
 use mathlib.Core.List.{_∷_}
 use mathlib.Core.Bool.{false}
-use Rattle.dem.specs.Bytes.{bit, bitOf}
-use Rattle.dem.specs.Layout.{number}
+use Rattle.format.specs.Bytes.{bit, bitOf}
+use Rattle.format.specs.Layout.{number}
 use Rattle.dem.specs.Message.{recordBit}
 use Rattle.message.specs.Values.{poseValues}
 use Rattle.quick.specs.Spread.{lookSlots, lookOf, poseSlots}

@@ -4,7 +4,7 @@ use mathlib.Core.Path.{ap, ap₂, _∙_}
 use mathlib.Core.Bool.{false}
 use Prim.Native.Nat.{ℕ, _+_, _*_}
 use native.Mathlib.Omega.{arith}
-use Rattle.dem.specs.Bytes.{bit}
+use Rattle.format.specs.Bytes.{bit}
 use Rattle.quick.specs.Spread.{fieldOr, behind, needlessOr}
 use Rattle.quick.proofs.Fields.{head-made}
 use borrow.Author.Needs.{needs}

@@ -2,7 +2,7 @@
 -- Assumes nothing.
 use Prim.Native.Nat.{_+_}
 use native.Mathlib.Omega.{arith}
-use Rattle.dem.proofs.AtLaws.{two-at}
+use Rattle.format.proofs.AtLaws.{two-at}
 use borrow.Author.Needs.{needs}
 use Rattle.quick.proofs.word_in.Statement.{statement}
 use Rattle.quick.proofs.word_in.Tie as tie

@@ -4,7 +4,7 @@ use mathlib.Core.Path.{refl, ap, _∙_}
 use mathlib.Core.List.{[], _∷_}
 use mir.Syntax.{w16, w32}
 use Rattle.dem.specs.Kind
-use Rattle.dem.specs.Layout.{number}
+use Rattle.format.specs.Layout.{number}
 use Rattle.dem.specs.Message.{apply, fill}
 use Rattle.wire.proofs.SignedLaws.{same-bits}
 use Rattle.scene.specs.Views.{sceneWith, withTables}

@@ -4,8 +4,8 @@ use mathlib.Core.Path.{refl}
 use mathlib.Core.List.{_∷_, _++_}
 use mir.Syntax.{w32}
 use Rattle.dem.specs.Kind
-use Rattle.dem.specs.Bytes.{bitOf}
-use Rattle.dem.specs.Layout.{number}
+use Rattle.format.specs.Bytes.{bitOf}
+use Rattle.format.specs.Layout.{number}
 use Rattle.message.specs.Values.{suppliesValues}
 use Rattle.wire.proofs.SignedLaws.{same-bits}
 use Rattle.scene.proofs.Filling.{flagged}

@@ -3,7 +3,7 @@
 use mathlib.Core.Path.{_≡_, _∙_}
 use mathlib.Core.List.{_∷_}
 use Rattle.dem.specs.Kind
-use Rattle.dem.specs.Layout.{number, tail}
+use Rattle.format.specs.Layout.{number, tail}
 use Rattle.dem.specs.Message.{fillSound}
 use Rattle.message.specs.Values.{soundValues}
 use Rattle.scene.proofs.Filling.{picked}

@@ -3,8 +3,8 @@
 use mathlib.Core.Path.{_≡_, _∙_}
 use mathlib.Core.List.{_∷_, _++_}
 use Rattle.dem.specs.Kind
-use Rattle.dem.specs.Bytes.{bitOf}
-use Rattle.dem.specs.Layout.{number, tail}
+use Rattle.format.specs.Bytes.{bitOf}
+use Rattle.format.specs.Layout.{number, tail}
 use Rattle.dem.specs.Message.{fillUpdate}
 use Rattle.message.specs.Values.{updateValues}
 use Rattle.scene.specs.Views.{baselineNumbers}

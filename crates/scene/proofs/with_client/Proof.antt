@@ -3,7 +3,7 @@
 use mathlib.Core.Path.{ap}
 use mathlib.Core.List.{_∷_}
 use Rattle.dem.specs.Kind
-use Rattle.dem.specs.Layout.{number}
+use Rattle.format.specs.Layout.{number}
 use Rattle.dem.specs.Message.{apply}
 use Rattle.scene.specs.Views.{sceneWith, withStats, clientValues}
 use borrow.Author.Needs.{needs}

@@ -11,7 +11,8 @@ use mir.Val.{ofZ}
 use mir.ValLaws.{toZ-ofZ}
 use borrow.Author.Needs.{needs}
 use Rattle.dem.specs.Scene.{Scene, at, zeroRecord}
-use Rattle.dem.specs.Answer.{Reply, Summary, whole}
+use Rattle.format.specs.Answer.{Reply}
+use Rattle.dem.specs.Answer.{Summary, whole}
 use Rattle.scene.specs.declared.Record.{Record}
 use Rattle.scene.specs.Views.{sceneWith, sceneOf, recordNumbers}
 use Rattle.scene.proofs.Changes.{seen-at}

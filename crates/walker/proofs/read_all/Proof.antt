@@ -4,7 +4,7 @@ use Prim.Native.Nat.{_+_, _-_, _<_}
 use native.Mathlib.Omega.{arith}
 use lib.ListN.{length}
 use borrow.Author.Needs.{needs}
-use Rattle.dem.proofs.ByteLaws.{bytes-of}
+use Rattle.format.proofs.ByteLaws.{bytes-of}
 use Rattle.scene.specs.Views.{sceneOf}
 use Rattle.walker.proofs.Walking.{Going, goes, found-ahead, end-told, refusal-told}
 use Rattle.walker.proofs.read_all.Statement.{statement}

@@ -10,8 +10,6 @@ use mir.Val.{Val, ofZ, bits, hbits}
 use mir.ValLaws.{ofZ-fits}
 use denote.Laws.{Is}
 use denote.Struct.Declared.{row}
-use denote.Enum.Declared.{variants}
-use denote.Enum.Laws.{Fields, spellss}
 use Rattle.format.specs.Layout.{Value, number, text}
 use Rattle.message.specs.Values.{char, vectorValues, lookValues, poseValues, motionValues, armsValues, suppliesValues, particleValues}
 use Rattle.message.specs.declared.Vector.{Vector}
@@ -21,7 +19,6 @@ use Rattle.message.specs.declared.Motion.{Motion}
 use Rattle.message.specs.declared.Arms.{Arms}
 use Rattle.message.specs.declared.Supplies.{Supplies}
 use Rattle.message.specs.declared.Particle.{Particle}
-use Rattle.message.specs.declared.Message.{Message}
 use Rattle.message.proofs.Vector as VectorType
 use Rattle.message.proofs.Look as LookType
 use Rattle.message.proofs.Pose as PoseType
@@ -29,13 +26,7 @@ use Rattle.message.proofs.Motion as MotionType
 use Rattle.message.proofs.Arms as ArmsType
 use Rattle.message.proofs.Supplies as SuppliesType
 use Rattle.message.proofs.Particle as ParticleType
-use Rattle.message.proofs.Message as MessageType
-use Rattle.message.proofs.Message.Laws as MessageLaws
 use Rattle.allowed.proofs.Steps.{Wide}
-
--- The fields of a message's own variant.
-abbrev pub Fit : Message → Type 0
-Fit m = Fields (variants MessageType.the-type) (spellss (MessageType.the-type .parts) MessageLaws.the-laws) (MessageType.the-type .to m)
 
 -- A signed number's bits.
 pub signed : (w : Width) (z : ℤ) → mag z < 2 ^ hbits w → ofZ w z < 2 ^ bits w

@@ -1,4 +1,3 @@
-pub mod Counts
 pub mod Fits
 pub mod MaskTests
 pub mod Messages

@@ -1,11 +1,11 @@
 -- The tests of messages say what their layouts allow: of each kind the fields in turn, each fitting its width by its type.
 -- Assumes nothing.
-use mathlib.Core.Path.{_≡_, refl, sym, ap, ap₂, _∙_}
+use mathlib.Core.Path.{_≡_, refl, sym, ap, _∙_}
 use mathlib.Core.List.{List, [], _∷_, _++_, append-nil}
-use mathlib.Core.Bool.{Bool, true, false, cond, not, _&&_, _||_, and-true, and-false, or-false, Bool·not-not}
-use Prim.Native.Nat.{ℕ, _+_, _<_, _^_}
+use mathlib.Core.Bool.{Bool, true, false, cond, not, _&&_, _||_, and-true, and-false, or-false}
+use Prim.Native.Nat.{ℕ, _+_, _*_, _<_, _^_}
 use native.Mathlib.Omega.{arith}
-use borrow.Author.Tests.{ne-eqb, leb-true, leb-false, not-true}
+use borrow.Author.Tests.{leb-true, leb-false, not-true}
 use lib.Dec.{leb, ltb, eqb, lit<}
 use lib.ListN.{take, drop}
 use mir.Val.{Val, ofZ}
@@ -17,7 +17,7 @@ use denote.Enum.Laws.{owed}
 use Rattle.dem.specs.Kind
 use Rattle.format.specs.Limits.{stringLimit}
 use Rattle.dem.specs.Limits.{entityCount, playerCount, statCount, styleCount, staticLimit, nameLimit, protocol}
-use Rattle.format.specs.Refusal.{code, reservedBit, wrongNumber, wrongTime, unknownMessage}
+use Rattle.format.specs.Refusal.{reservedBit, wrongNumber, wrongTime}
 use Rattle.format.specs.Bytes.{unless, free, bit}
 use Rattle.format.specs.Layout.{Value, number, text, Layout, done, field, split, string, tail, allows, stringBytes}
 use Rattle.format.specs.Masked.{Mask, slotLayout, anySet}
@@ -26,6 +26,10 @@ use Rattle.dem.specs.Scene.{Context as Numbers, zeroBaseline}
 use Rattle.dem.specs.Message.{row, soundSlots, soundTail, clientSlots, clientTail, updateSlots, updateMask, updateLayout, numberRule, isUpdate}
 use Rattle.dem.specs.Message.{equals, between, highRule, entityLayout, isPoint, isLine, names, kindLayout, layout, entityRule, entity}
 use Rattle.format.proofs.ResultLaws.{clash}
+use Rattle.dem.proofs.MessageLaws.{number-update, kind-update}
+use Rattle.dem.proofs.ShapeLaws.{update-numbered}
+use Rattle.dem.proofs.SoundLaws.{from-four}
+use Rattle.dem.proofs.UpdateLaws.{update-mask}
 use Rattle.message.specs.Values.{short, long, char, valuesBy, vectorValues, lookValues, poseValues, soundValues, temporaryValues, serverinfoValues}
 use Rattle.message.specs.Values.{motionValues, armsValues, suppliesValues, clientValues, updateValues}
 use Rattle.message.specs.declared.Vector.{Vector}
@@ -40,6 +44,7 @@ use Rattle.message.specs.declared.Temporary.{Temporary}
 use Rattle.message.specs.declared.Temporary.the-variants.{Point, Line}
 use Rattle.message.specs.declared.Message.{Message}
 use Rattle.message.specs.declared.Message.the-variants as M
+use Rattle.message.proofs.Back.{Fit}
 use Rattle.message.proofs.Look as LookType
 use Rattle.message.proofs.Pose as PoseType
 use Rattle.message.proofs.Temporary as TemporaryType
@@ -49,29 +54,28 @@ use Rattle.message.proofs.Serverinfo as ServerinfoType
 use Rattle.message.proofs.Clientdata as ClientdataType
 use Rattle.message.proofs.Update as UpdateType
 use Rattle.strings.specs.Names.{namesIn}
-use Rattle.masked.proofs.MaskLaws.{above, above-three}
 use Rattle.parts.specs.Kinds.{contextOf}
 use Rattle.parts.specs.declared.Context.{Context}
-use Rattle.plain.proofs.Rules.{not-below}
-use Rattle.plain.proofs.Types.{in-run, none-is-point}
+use Rattle.wire.proofs.Rules.{not-from}
+use Rattle.format.proofs.EachLaws.{in-run}
+use Rattle.plain.proofs.Types.{none-is-point}
 use Rattle.wire.specs.Cursors.{placed}
 use Rattle.allowed.specs.Tests.{slotTest, motionTest, armsTest, lookTest, poseTest, listsTest, sourceTest, soundTest, timeTest}
 use Rattle.allowed.specs.Tests.{serverinfoTest, clientTest, temporaryTest, sentTest, updateTest, messageTest}
 use Rattle.allowed.proofs.Steps.{met, field-step, ruled-step, sent-step, entity-step, split-step, string-step, Wide}
 use Rattle.allowed.proofs.Steps.{run, run-step, slots-step, refuted}
-use Rattle.allowed.proofs.Fits.{Fit, signed, vector-wide, look-wide, pose-wide, motion-wide, arms-wide, supplies-wide}
+use Rattle.allowed.proofs.Fits.{signed, vector-wide, look-wide, pose-wide, motion-wide, arms-wide, supplies-wide}
 use Rattle.allowed.proofs.Fits.{both-wide, particle-wide}
-use Rattle.allowed.proofs.Counts.{never}
 
 -- ---- behind the number
 
-pub known : (c : Numbers) (n : ℕ) (vs : List Value) → n < 256 → numberRule c n ≡ 0 → allows (kindLayout c n) vs ≡ allows (layout c) (number n ∷ vs)
+known : (c : Numbers) (n : ℕ) (vs : List Value) → n < 256 → numberRule c n ≡ 0 → allows (kindLayout c n) vs ≡ allows (layout c) (number n ∷ vs)
 unfolding layout
 known c n vs h e =
     sym (field-step true 1 (numberRule c) (λ n. kindLayout c n) n vs h ∙ ap (λ (r : ℕ). eqb r 0 && allows (kindLayout c n) vs) e)
 
 -- A test of the fields is a test of the message.
-pub behind : (c : Numbers) (n : ℕ) (vs : List Value) (test : Bool) → n < 256 → numberRule c n ≡ 0 → allows (kindLayout c n) vs ≡ test
+behind : (c : Numbers) (n : ℕ) (vs : List Value) (test : Bool) → n < 256 → numberRule c n ≡ 0 → allows (kindLayout c n) vs ≡ test
     → test ≡ allows (layout c) (number n ∷ vs)
 behind c n vs test h e p = sym p ∙ known c n vs h e
 
@@ -107,7 +111,7 @@ source-field c e = split-step true done c (e .0) [] ∙ and-true (sourceTest c e
 
 -- Bits 2 to 7 of a byte are clear below 4.
 small-mask : (m : ℕ) → m < 256 → not (anySet (2 ∷ 3 ∷ 4 ∷ 5 ∷ 6 ∷ 7 ∷ []) (bit m)) ≡ ltb m 4
-small-mask m h = ap not (sym (above-three m h) ∙ above 3 m) ∙ Bool·not-not (ltb m 4)
+small-mask m h = ap not (sym (from-four m h)) ∙ sym (not-from 4 m)
 
 sound-law : (c : Numbers) (s : Sound) (vs : List Val) → Is (rowOf SoundType.the-type) s vs
     → allows (kindLayout c Kind.sound) (soundValues s) ≡ soundTest s
@@ -260,25 +264,13 @@ static-law c l p ls ps f g =
     let room : Bool = ltb (c .statics) staticLimit in
     sym (field-step true 1 (numberRule c) (λ n. kindLayout c n) Kind.static (lookValues l ++ poseValues p) (lit< tt)
     ∙ ap (λ (b : Bool). b && allows (run entityWidths done) (lookValues l ++ poseValues p))
-    (met (not (leb staticLimit (c .statics))) wrongNumber (lit< tt) ∙ ap not (not-below staticLimit (c .statics)) ∙ Bool·not-not room)
+    (met (not (leb staticLimit (c .statics))) wrongNumber (lit< tt) ∙ sym (not-from staticLimit (c .statics)))
     ∙ ap (λ (b : Bool). room && b) (free-fields entityWidths (lookValues l ++ poseValues p) (entity-wide l p ls ps f g)) ∙ and-true room)
 
 -- ---- update
 
-chosen : (b : Bool) (k l : Layout) → b ≡ true → cond b k l ≡ k
-chosen true k l e = refl
-chosen false k l e = clash (cc)
-
-update-number : (c : Numbers) (n : ℕ) → isUpdate n ≡ true → numberRule c n ≡ 0
-update-number c n e =
-    ap₂
-    (λ (a b : Bool). cond (a || (leb 1 n && leb n Kind.last && not (eqb n 21)))
-    (unless (not (b && leb staticLimit (c .statics))) wrongNumber) (code unknownMessage))
-    e
-    (ne-eqb n Kind.static (λ z. omega (arith, leb-true Kind.update n e)))
-
 update-fields : (u : Update) (vs : List Val) → Is (rowOf UpdateType.the-type) u vs
-    → allows (updateLayout (u .number)) (tail (updateValues u)) ≡ sentTest u
+    → allows (updateLayout (u .number)) (tail (updateValues u)) ≡ sentTest (bit (u .high * 256 + u .number)) u
 unfolding sentTest lookTest poseTest allows
 update-fields u vs p =
     let f = p .1 .1 in
@@ -305,17 +297,17 @@ update-fields u vs p =
     ∙ slots-step glows (take 6 (drop 5 (updateSlots zeroBaseline))) mask done (poseValues (u .pose)) []
     (pose-wide (u .pose) _ (f .1 .1 .1 .1 .1 .0))
     ∙ and-true (glows && slotTest true (take 6 (drop 5 (updateSlots zeroBaseline))) mask (poseValues (u .pose)))
+    ∙ sym (ap (λ (mask : Mask). sentTest mask u) (update-mask h n (f .0 .1)))
 
 update-law : (c : Numbers) (u : Update) (vs : List Val) → Is (rowOf UpdateType.the-type) u vs → updateTest u ≡ allows (layout c) (updateValues u)
 unfolding updateTest layout kindLayout
 update-law c u vs p = go (isUpdate (u .number)) refl
   where
-    go : (b : Bool) → isUpdate (u .number) ≡ b → (b && sentTest u) ≡ allows (layout c) (updateValues u)
-    go false e = refuted (layout c) (updateValues u) (λ a. never c _ _ _ _ _ _ _ _ _ _ _ _ _ (u .number) e (a .2))
+    go : (b : Bool) → isUpdate (u .number) ≡ b → (b && sentTest (bit (u .high * 256 + u .number)) u) ≡ allows (layout c) (updateValues u)
+    go false e = refuted (layout c) (updateValues u) (λ a. omega (arith, update-numbered c _ _ _ _ _ _ _ _ _ _ _ _ _ (u .number) a, leb-false Kind.update (u .number) e))
     go true e =
-        behind c (u .number) (tail (updateValues u)) (sentTest u) (p .1 .1 .0 .1) (update-number c (u .number) e)
-        (ap (λ (l : Layout). allows l (tail (updateValues u))) (chosen (isUpdate (u .number)) (updateLayout (u .number)) _ e)
-        ∙ update-fields u vs p)
+        behind c (u .number) (tail (updateValues u)) (sentTest (bit (u .high * 256 + u .number)) u) (p .1 .1 .0 .1) (number-update c (u .number) e)
+        (ap (λ (l : Layout). allows l (tail (updateValues u))) (kind-update c (u .number) e) ∙ update-fields u vs p)
 
 -- ---- every message
 

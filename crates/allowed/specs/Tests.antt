@@ -1,7 +1,7 @@
 -- Whether a message as sent is what some bytes read to, kind by kind, as short tests of its fields.
 use mathlib.Core.List.{List, [], _∷_}
 use mathlib.Core.Bool.{Bool, true, false, not, _&&_, _||_}
-use Prim.Native.Nat.{ℕ}
+use Prim.Native.Nat.{ℕ, _+_, _*_}
 use lib.ListN.{take, drop}
 use lib.Dec.{leb, ltb, eqb}
 use mir.Val.{ofZ}
@@ -14,7 +14,7 @@ use Rattle.format.specs.Layout.{Value, number, done, stringBytes, allows}
 use Rattle.format.specs.Masked.{Slot, Mask, isSent, isNumber, anySet}
 use Rattle.format.specs.Floats.{isTime, notBefore}
 use Rattle.dem.specs.Scene.{zeroBaseline}
-use Rattle.dem.specs.Message.{soundSlots, clientSlots, updateSlots, updateMask, names, isPoint, isLine}
+use Rattle.dem.specs.Message.{soundSlots, clientSlots, updateSlots, highBit, wideBit, names, isPoint, isLine}
 use Rattle.wire.specs.declared.Text.{Text}
 use Rattle.strings.specs.Names.{namesIn}
 use Rattle.message.specs.Values.{motionValues, armsValues, lookValues, poseValues}
@@ -46,17 +46,17 @@ slotTest so (s ∷ ss) mask (v ∷ vs) = slotTest (so && (isSent s mask || isNum
 abbrev pub partTest : List Slot → ℕ → ℕ → Mask → List Value → Bool
 partTest ss a n mask vs = slotTest true (take n (drop a ss)) mask vs
 
-unfoldable pub motionTest : ℕ → Motion → Bool
-motionTest mask m = partTest clientSlots 0 8 (bit mask) (motionValues m)
+unfoldable pub motionTest : Mask → Motion → Bool
+motionTest mask m = partTest clientSlots 0 8 mask (motionValues m)
 
-unfoldable pub armsTest : ℕ → Arms → Bool
-armsTest mask a = partTest clientSlots 9 3 (bit mask) (armsValues a)
+unfoldable pub armsTest : Mask → Arms → Bool
+armsTest mask a = partTest clientSlots 9 3 mask (armsValues a)
 
-unfoldable pub lookTest : ℕ → ℕ → Look → Bool
-lookTest low high l = partTest (updateSlots zeroBaseline) 0 4 (updateMask low high) (lookValues l)
+unfoldable pub lookTest : Mask → Look → Bool
+lookTest mask l = partTest (updateSlots zeroBaseline) 0 4 mask (lookValues l)
 
-unfoldable pub poseTest : ℕ → ℕ → Pose → Bool
-poseTest low high p = partTest (updateSlots zeroBaseline) 5 6 (updateMask low high) (poseValues p)
+unfoldable pub poseTest : Mask → Pose → Bool
+poseTest mask p = partTest (updateSlots zeroBaseline) 5 6 mask (poseValues p)
 
 -- ---- kinds
 
@@ -84,21 +84,20 @@ serverinfoTest t s =
     && listsTest t (s .names)
 
 unfoldable pub clientTest : Clientdata → Bool
-clientTest c = not (anySet (8 ∷ 15 ∷ []) (bit (c .mask))) && motionTest (c .mask) (c .motion) && armsTest (c .mask) (c .arms)
+clientTest c = not (anySet (8 ∷ 15 ∷ []) (bit (c .mask))) && motionTest (bit (c .mask)) (c .motion) && armsTest (bit (c .mask)) (c .arms)
 
 unfoldable pub temporaryTest : Temporary → Bool
 temporaryTest (Point k v) = isPoint k
 temporaryTest (Line k e v w) = isLine k && ltb (e .0) entityCount
 
--- The high mask byte is sent or 0, and its bit 7 is clear; an entity of one byte is below 256.
-unfoldable pub sentTest : Update → Bool
-sentTest u =
-    (bit (u .number) 0 || eqb (u .high) 0) && not (bit (u .high) 7) && (bit (u .high) 6 || ltb (u .entity .0) 256)
-    && ltb (u .entity .0) entityCount && lookTest (u .number) (u .high) (u .look) && (bit (u .high) 5 || eqb (u .effects) 0)
-    && poseTest (u .number) (u .high) (u .pose)
+-- The high mask byte is sent or 0, and bit 15 is clear; an entity of one byte is below 256.
+unfoldable pub sentTest : Mask → Update → Bool
+sentTest mask u =
+    (mask highBit || eqb (u .high) 0) && not (mask 15) && (mask wideBit || ltb (u .entity .0) 256) && ltb (u .entity .0) entityCount
+    && lookTest mask (u .look) && partTest (updateSlots zeroBaseline) 4 1 mask (number (u .effects) ∷ []) && poseTest mask (u .pose)
 
 unfoldable pub updateTest : Update → Bool
-updateTest u = leb Kind.update (u .number) && sentTest u
+updateTest u = leb Kind.update (u .number) && sentTest (bit (u .high * 256 + u .number)) u
 
 -- ---- every message
 

@@ -3,6 +3,7 @@ ghost use mathlib.Core.Path.{_≡_};
 ghost use mathlib.Core.List.{[]};
 ghost use Rattle.format.specs.Limits.{stringLimit};
 ghost use Rattle.dem.specs.Limits.{nameLimit};
+ghost use Rattle.format.specs.Bytes.{bit};
 ghost use Rattle.format.specs.Layout.{allows, stringBytes, done};
 ghost use Rattle.dem.specs.Message.{layout, names};
 ghost use Rattle.strings.specs.Names.{namesIn};
@@ -11,6 +12,17 @@ ghost use Rattle.parts.specs.Kinds.{contextOf};
 ghost use Rattle.wire.specs.Cursors.{placed};
 ghost use Rattle.allowed.specs.Tests.{motionTest, armsTest, lookTest, poseTest, sourceTest, soundTest, timeTest, serverinfoTest};
 ghost use Rattle.allowed.specs.Tests.{clientTest, temporaryTest, updateTest};
+use dem::clientdata;
+use dem::kind::UPDATE;
+use dem::limit::ENTITY_BOUND;
+use dem::limit::HIGHEST_LIMIT;
+use dem::limit::PROTOCOL;
+use dem::limit::STAT_BOUND;
+use dem::limit::STATIC_LIMIT;
+use dem::limit::STYLE_COUNT;
+use dem::sound;
+use dem::update;
+use format::limit::STRING_LIMIT;
 use message::Arms;
 use message::Clientdata;
 use message::Entity;
@@ -26,9 +38,6 @@ use parts::Context;
 use wire::Cursor;
 use wire::Text;
 
-// Bytes of a string, without its zero.
-const LONGEST: usize = 2046;
-
 // ---- strings
 
 // Inside the text, not too long, and no byte of it 0 or FF.
@@ -43,7 +52,7 @@ pub fn text_is_string(text: &[u8], p: Text) -> bool
     if text.len() - start < len {
         return false;
     }
-    if LONGEST < len {
+    if STRING_LIMIT <= len {
         return false;
     }
     let mut n = 0;
@@ -89,52 +98,45 @@ pub fn names_are_lists(text: &[u8], p: Text) -> bool
 
 // ---- fields behind a mask: each that is not sent is 0
 
-// A byte of mask bits.
-fn wide(mask: u8) -> u16
-    ensures { λ r. ⌜ r ≡ mask ⌝ }
-{
-    mask as u16
-}
-
 fn motion_fits(mask: u16, m: Motion) -> bool
-    ensures { λ r. ⌜ r ≡ motionTest mask m ⌝ }
+    ensures { λ r. ⌜ r ≡ motionTest (bit mask) m ⌝ }
 {
-    (wire::has(mask, 1) | (m.view_height == 0))
-        & (wire::has(mask, 2) | (m.pitch == 0))
-        & (wire::has(mask, 4) | (m.punch0 == 0))
-        & (wire::has(mask, 32) | (m.velocity0 == 0))
-        & (wire::has(mask, 8) | (m.punch1 == 0))
-        & (wire::has(mask, 64) | (m.velocity1 == 0))
-        & (wire::has(mask, 16) | (m.punch2 == 0))
-        & (wire::has(mask, 128) | (m.velocity2 == 0))
+    (wire::has(mask, clientdata::VIEW_HEIGHT) | (m.view_height == 0))
+        & (wire::has(mask, clientdata::PITCH) | (m.pitch == 0))
+        & (wire::has(mask, clientdata::PUNCH0) | (m.punch0 == 0))
+        & (wire::has(mask, clientdata::VELOCITY0) | (m.velocity0 == 0))
+        & (wire::has(mask, clientdata::PUNCH1) | (m.punch1 == 0))
+        & (wire::has(mask, clientdata::VELOCITY1) | (m.velocity1 == 0))
+        & (wire::has(mask, clientdata::PUNCH2) | (m.punch2 == 0))
+        & (wire::has(mask, clientdata::VELOCITY2) | (m.velocity2 == 0))
 }
 
 fn arms_fit(mask: u16, a: Arms) -> bool
-    ensures { λ r. ⌜ r ≡ armsTest mask a ⌝ }
+    ensures { λ r. ⌜ r ≡ armsTest (bit mask) a ⌝ }
 {
-    (wire::has(mask, 4096) | (a.weapon_frame == 0))
-        & (wire::has(mask, 8192) | (a.armour == 0))
-        & (wire::has(mask, 16384) | (a.weapon_model == 0))
+    (wire::has(mask, clientdata::WEAPON_FRAME) | (a.weapon_frame == 0))
+        & (wire::has(mask, clientdata::ARMOUR) | (a.armour == 0))
+        & (wire::has(mask, clientdata::WEAPON_MODEL) | (a.weapon_model == 0))
 }
 
-fn look_fits(low: u16, high: u16, l: Look) -> bool
-    ensures { λ r. ⌜ r ≡ lookTest low high l ⌝ }
+fn look_fits(mask: u16, l: Look) -> bool
+    ensures { λ r. ⌜ r ≡ lookTest (bit mask) l ⌝ }
 {
-    (wire::has(high, 4) | (l.model == 0))
-        & (wire::has(low, 64) | (l.frame == 0))
-        & (wire::has(high, 8) | (l.colormap == 0))
-        & (wire::has(high, 16) | (l.skin == 0))
+    (wire::has(mask, update::MODEL) | (l.model == 0))
+        & (wire::has(mask, update::FRAME) | (l.frame == 0))
+        & (wire::has(mask, update::COLORMAP) | (l.colormap == 0))
+        & (wire::has(mask, update::SKIN) | (l.skin == 0))
 }
 
-fn pose_fits(low: u16, high: u16, p: Pose) -> bool
-    ensures { λ r. ⌜ r ≡ poseTest low high p ⌝ }
+fn pose_fits(mask: u16, p: Pose) -> bool
+    ensures { λ r. ⌜ r ≡ poseTest (bit mask) p ⌝ }
 {
-    (wire::has(low, 2) | (p.x == 0))
-        & (wire::has(high, 1) | (p.angle0 == 0))
-        & (wire::has(low, 4) | (p.y == 0))
-        & (wire::has(low, 16) | (p.angle1 == 0))
-        & (wire::has(low, 8) | (p.z == 0))
-        & (wire::has(high, 2) | (p.angle2 == 0))
+    (wire::has(mask, update::X) | (p.x == 0))
+        & (wire::has(mask, update::ANGLE0) | (p.angle0 == 0))
+        & (wire::has(mask, update::Y) | (p.y == 0))
+        & (wire::has(mask, update::ANGLE1) | (p.angle1 == 0))
+        & (wire::has(mask, update::Z) | (p.z == 0))
+        & (wire::has(mask, update::ANGLE2) | (p.angle2 == 0))
 }
 
 // ---- kinds
@@ -143,18 +145,18 @@ fn pose_fits(low: u16, high: u16, p: Pose) -> bool
 fn source_fits(channel: u8, entity: Entity) -> bool
     ensures { λ r. ⌜ r ≡ sourceTest channel entity ⌝ }
 {
-    (channel < 8) & (entity.0 < 449)
+    (channel < 8) & (entity.0 < ENTITY_BOUND)
 }
 
-// Bits 2 to 7 of the mask are reserved.
+// No reserved bit of the mask is set.
 fn sound_fits(s: Sound) -> bool
     ensures { λ r. ⌜ r ≡ soundTest s ⌝ }
 {
-    let mask = s.mask;
-    let bits = wide(mask);
-    let sent = (wire::has(bits, 1) | (s.volume == 0)) & (wire::has(bits, 2) | (s.attenuation == 0));
+    let mask = s.mask as u16;
+    let volume = wire::has(mask, sound::VOLUME) | (s.volume == 0);
+    let attenuation = wire::has(mask, sound::ATTENUATION) | (s.attenuation == 0);
     let entity = s.entity;
-    (mask < 4) & sent & source_fits(s.channel, entity)
+    (s.mask < sound::MASK_BOUND) & (volume & attenuation) & source_fits(s.channel, entity)
 }
 
 // Sign clear, exponent below 255, and not before the time before.
@@ -170,20 +172,20 @@ fn serverinfo_fits(text: &[u8], s: Serverinfo) -> bool
     let limit = s.limit;
     let map = s.map;
     let lists = s.names;
-    (s.protocol == 15)
-        & ((1 <= limit) & (limit <= 16))
+    (s.protocol == PROTOCOL)
+        & ((1 <= limit) & (limit <= HIGHEST_LIMIT))
         & text_is_string(text, map)
         & names_are_lists(text, lists)
 }
 
-// Bits 8 and 15 of the mask are reserved.
+// No reserved bit of the mask is set.
 fn clientdata_fits(c: Clientdata) -> bool
     ensures { λ r. ⌜ r ≡ clientTest c ⌝ }
 {
     let mask = c.mask;
     let motion = c.motion;
     let arms = c.arms;
-    !(wire::has(mask, 256) | wire::has(mask, 32768))
+    !(wire::has(mask, clientdata::RESERVED_LOW) | wire::has(mask, clientdata::RESERVED_HIGH))
         & motion_fits(mask, motion)
         & arms_fit(mask, arms)
 }
@@ -194,24 +196,25 @@ fn temporary_fits(t: Temporary) -> bool
 {
     match t {
         Temporary::Point(k, _) => (k <= 4) | (k == 7) | (k == 8) | (k == 10) | (k == 11),
-        Temporary::Line(k, e, _, _) => ((k == 5) | (k == 6) | (k == 9)) & (e.0 < 449),
+        Temporary::Line(k, e, _, _) => ((k == 5) | (k == 6) | (k == 9)) & (e.0 < ENTITY_BOUND),
     }
 }
 
-// Bit 0 brings the high mask byte, of which bit 7 is reserved, and bit 14 the entity's second byte.
+// The byte of high mask bits and the entity's second byte are as the mask says.
 fn update_fits(u: Update) -> bool
     ensures { λ r. ⌜ r ≡ updateTest u ⌝ }
 {
     let number = u.number;
-    let low = wide(number);
-    let high = wide(u.high);
+    let mask = (u.high as u16) * 256 + (number as u16);
     let entity = u.entity.0;
     let look = u.look;
     let pose = u.pose;
-    let mask = (wire::has(low, 1) | (u.high == 0)) & !wire::has(high, 128);
-    let named = mask & (wire::has(high, 64) | (entity < 256)) & (entity < 449);
-    let looks = named & look_fits(low, high, look) & (wire::has(high, 32) | (u.effects == 0));
-    (128 <= number) & (looks & pose_fits(low, high, pose))
+    let high = (wire::has(mask, update::HIGH) | (u.high == 0)) & !wire::has(mask, update::RESERVED);
+    let named = high & (wire::has(mask, update::WIDE) | (entity < 256)) & (entity < ENTITY_BOUND);
+    let looks = named
+        & look_fits(mask, look)
+        & (wire::has(mask, update::EFFECTS) | (u.effects == 0));
+    (UPDATE <= number) & (looks & pose_fits(mask, pose))
 }
 
 // ---- every message
@@ -221,9 +224,9 @@ pub fn is_allowed(m: Message, text: &[u8], x: Context) -> bool
     ensures { λ r. ⌜ r ≡ allows (layout (contextOf x)) (valuesBy (placed (now (text .entry))) m) ⌝ }
 {
     match m {
-        Message::Stat(i, _) => i < 32,
-        Message::Version(v) => v == 15,
-        Message::View(e) | Message::Baseline(e, _, _) => e.0 < 449,
+        Message::Stat(i, _) => i < STAT_BOUND,
+        Message::Version(v) => v == PROTOCOL,
+        Message::View(e) | Message::Baseline(e, _, _) => e.0 < ENTITY_BOUND,
         Message::Sound(s) => sound_fits(s),
         Message::Time(v) => time_fits(v, x),
         Message::Print(t)
@@ -232,12 +235,12 @@ pub fn is_allowed(m: Message, text: &[u8], x: Context) -> bool
         | Message::Finale(t)
         | Message::Cutscene(t) => text_is_string(text, t),
         Message::Serverinfo(s) => serverinfo_fits(text, s),
-        Message::Style(i, t) => (i < 64) & text_is_string(text, t),
+        Message::Style(i, t) => (i < STYLE_COUNT) & text_is_string(text, t),
         Message::Name(p, t) => (p.0 < x.limit) & text_is_string(text, t),
         Message::Frags(p, _) | Message::Colours(p, _) => p.0 < x.limit,
         Message::Clientdata(c) => clientdata_fits(c),
         Message::Stopsound(c, e) => source_fits(c, e),
-        Message::Static(_, _) => x.statics < 128,
+        Message::Static(_, _) => x.statics < STATIC_LIMIT,
         Message::Temporary(t) => temporary_fits(t),
         Message::Update(u) => update_fits(u),
         _ => true,

@@ -27,7 +27,8 @@ use Rattle.dem.specs.Recording.{readMessage, writeMessage, messages}
 use Rattle.format.proofs.ResultLaws.{clash}
 use Rattle.format.proofs.ByteLaws.{drop-bytes}
 use Rattle.dem.proofs.BlockLaws.{message-lawful}
-use Rattle.normal.specs.Normal.{soundOf, soundBytes}
+use Rattle.normal.specs.Normal.{soundBytes}
+use Rattle.normal.proofs.OtherForm.{Unmasked, other-form}
 use Rattle.normal.proofs.SoundBytes.{no-sound}
 use Rattle.format.proofs.LayoutLaws.{Allowed}
 use Rattle.format.proofs.AtLaws.{one-at, parse-good}
@@ -88,49 +89,6 @@ copied s at to xs l e = go (leb to (length s)) refl
         sym (append-nil xs) ∙ ap (λ (bs : List ℕ). xs ++ bs) (sym (drop-of-length-le s past)) ∙ e
         ∙ sym (take-all (to - at) (drop at s) (omega (arith, leb-false to (length s) q, length-drop at s)))
 
--- A message without a mask is its own normal form, and a sound is sent anew.
-pub record Unmasked (m : Sent) : Type 0 where
-  pub client : (d : Clientdata) → m ≡ M.Clientdata d → ⊥
-  pub update : (u : Update) → m ≡ M.Update u → ⊥
-
-pub other-form : (t : Scene) (f : Text → List ℕ) (read : List ℕ) (m : Sent) → Unmasked m → writeMessage t (valuesBy f m) ≡ read
-    → normalBytes messages normalMessage t (valuesBy f m) ≡ soundBytes (contextOf t) read (soundOf m)
-unfolding normal fill writeMessage
-other-form t f read M.Nop h w = w
-other-form t f read M.Disconnect h w = w
-other-form t f read (M.Stat _ _) h w = w
-other-form t f read (M.Version _) h w = w
-other-form t f read (M.View _) h w = w
-other-form t f read (M.Sound v) h w = refl
-other-form t f read (M.Time _) h w = w
-other-form t f read (M.Print _) h w = w
-other-form t f read (M.Stufftext _) h w = w
-other-form t f read (M.SetAngles _ _ _) h w = w
-other-form t f read (M.Serverinfo _) h w = w
-other-form t f read (M.Style _ _) h w = w
-other-form t f read (M.Name _ _) h w = w
-other-form t f read (M.Frags _ _) h w = w
-other-form t f read (M.Clientdata d) h w = absurd (h .client d refl)
-other-form t f read (M.Stopsound _ _) h w = w
-other-form t f read (M.Colours _ _) h w = w
-other-form t f read (M.Particle _) h w = w
-other-form t f read (M.Damage _ _ _) h w = w
-other-form t f read (M.Static _ _) h w = w
-other-form t f read (M.Baseline _ _ _) h w = w
-other-form t f read (M.Temporary _) h w = w
-other-form t f read (M.Pause _) h w = w
-other-form t f read (M.Signon _) h w = w
-other-form t f read (M.Centerprint _) h w = w
-other-form t f read M.Killed h w = w
-other-form t f read M.Secret h w = w
-other-form t f read (M.StaticSound _ _ _ _) h w = w
-other-form t f read M.Intermission h w = w
-other-form t f read (M.Finale _) h w = w
-other-form t f read (M.Track _ _) h w = w
-other-form t f read M.Sellscreen h w = w
-other-form t f read (M.Cutscene _) h w = w
-other-form t f read (M.Update u) h w = absurd (h .update u refl)
-
 -- A message that is passed changes nothing and is its own normal form.
 passed-still : (t : Scene) (us : List Value) (n : ℕ) → isPassed n ≡ true → apply t (fill t (number n ∷ us)) ≡ t
 unfolding apply fill
@@ -152,13 +110,13 @@ unfolding gotten kindAt
 client-read s at x k c = go (eqb (c .refusal) 0) refl (parseAt s (here at) (kindLayout x 15)) refl
   where
     go : (b : Bool) → eqb (c .refusal) 0 ≡ b → (q : Result (List Value)) → parseAt s (here at) (kindLayout x 15) ≡ q
-        → cond b (found (number Kind.clientdata ∷ clientValues k) (drop (c .at) s)) (refused (c .refusal) [])
+        → cond b (found (number Kind.clientdata ∷ clientValues k) (drop (c .at) s)) (refused (c .refusal) (drop (c .at) s))
         ≡ mapResult (λ vs. fillClient (tail vs)) (put (number Kind.clientdata) q) → ClientRead s at x k c
     go true e (found us rest) f h =
         let behind : drop (c .at) s ≡ rest = cc in
         record {
           sent = us;
-          read = ap (λ (b : Bool). cond b (found (number 15 ∷ us) (drop (c .at) s)) (refused (c .refusal) [])) e
+          read = ap (λ (b : Bool). cond b (found (number 15 ∷ us) (drop (c .at) s)) (refused (c .refusal) (drop (c .at) s))) e
               ∙ ap (found (number 15 ∷ us)) behind ∙ sym (ap (put (number 15)) f);
           filled = λ z. cc;
         }
@@ -167,12 +125,12 @@ client-read s at x k c = go (eqb (c .refusal) 0) refl (parseAt s (here at) (kind
     go false e (refused n left) f h =
         record {
           sent = [];
-          read = ap (λ (b : Bool). cond b (found (number 15 ∷ []) (drop (c .at) s)) (refused (c .refusal) [])) e ∙ (cc) ∙ sym (ap (put (number 15)) f);
+          read = ap (λ (b : Bool). cond b (found (number 15 ∷ []) (drop (c .at) s)) (refused (c .refusal) (drop (c .at) s))) e ∙ (cc) ∙ sym (ap (put (number 15)) f);
           filled = λ z. let w : true ≡ false = sym (eq-eqb (c .refusal) 0 z) ∙ e in clash (cc);
         }
 
 -- No mark is set in a cleared scene.
-pub cleared-present : (b : List Baseline) (e : List Record) (p : List Bool) (x : Rest) (n : ℕ) → held b e p x ≡ cleared n → held b e (replicate 449 false) x ≡ cleared n
+pub cleared-present : (b : List Baseline) (e : List Record) (p : List Bool) (x : Rest) (n : ℕ) → held b e p x ≡ cleared n → held b e (replicate entityCount false) x ≡ cleared n
 unfolding sceneWith
 cleared-present b e p x n g = ap (λ (q : List Bool). held b e q x) (sym (ap (λ (t : Scene). t .present) g)) ∙ g
 
@@ -309,8 +267,8 @@ module _ (s : List ℕ) (at : ℕ) (l : at < length s) (b : List Baseline) (e : 
     -- ---- a time, and clientdata
 
     pub time-moved : Bytes s → (v : ℕ) (y : Rest) (c : Cursor) → gotten s (number 7 ∷ number v ∷ []) c ≡ parseAt s (here at) (layoutIn (held b e p x)) → c .refusal ≡ 0
-        → ((b e : List (List ℕ)) (p : List Bool) → sceneWith b e (replicate 449 false) y ≡ apply (sceneWith b e p x) (number Kind.time ∷ number v ∷ []))
-        → Moved s (held b e p x) at (held b e (replicate 449 false) y) (c .at) (take (c .at - at) (drop at s))
+        → ((b e : List (List ℕ)) (p : List Bool) → sceneWith b e (replicate entityCount false) y ≡ apply (sceneWith b e p x) (number Kind.time ∷ number v ∷ []))
+        → Moved s (held b e p x) at (held b e (replicate entityCount false) y) (c .at) (take (c .at - at) (drop at s))
     unfolding fill normal
     time-moved h v y c q z g =
         parsed-moved (number 7 ∷ number v ∷ []) c q z _ (sym (g (map baselineNumbers b) (map recordNumbers e) p))
@@ -421,7 +379,7 @@ module _ (s : List ℕ) (at : ℕ) (l : at < length s) (b : List Baseline) (e : 
 
           pub rest-moved : (ks : List ℕ) → OneOf ks (tagOf Messages.the-type m) → T (not (hasKey ks 10)) → T (not (hasKey ks 20))
               → 7 ≢ getD s at 0 → (y : Rest)
-              → ((b e : List (List ℕ)) (p : List Bool) (t : Text → List ℕ) → Numbered m → sceneWith [] [] [] y ≡ withTables [] [] [] (apply (sceneWith b e p x) (fill (sceneWith b e p x) (valuesBy t m))))
+              → ((b e : List (List ℕ)) (p : List Bool) → Numbered m → sceneWith [] [] [] y ≡ withTables [] [] [] (apply (sceneWith b e p x) (fill (sceneWith b e p x) (valuesOf s m))))
               → Moved s (held b e p x) at (held b e p y) (c .at) otherForm
           unfolding sceneWith
           rest-moved ks o n10 n20 n7 y f =
@@ -436,4 +394,4 @@ module _ (s : List ℕ) (at : ℕ) (l : at < length s) (b : List Baseline) (e : 
               }) in
               other-moved _
               (sym (rest-joined (apply t (fill t (valuesOf s m))) y (t .baselines) (t .records) (t .present)
-              (f (t .baselines) (t .records) (t .present) (placed s) numbered) (kept .0) (kept .1) (kept .2)))
+              (f (t .baselines) (t .records) (t .present) numbered) (kept .0) (kept .1) (kept .2)))

@@ -9,6 +9,7 @@ use borrow.Author.Tests.{lt-ltb, le-ltb, ltb-true, ltb-false, eqb-true, eqb-fals
 use lib.Dec.{ltb, eqb}
 use lib.ListN.{length, take, getD, set, replicate, length-map, length-set, List·getD-map}
 use lib.Seq.{take-suc, take-suc-set, take-all, getD-set-same, getD-set-other, set-out}
+use Rattle.dem.specs.Limits.{entityCount}
 use Rattle.format.specs.Bytes.{bitOf}
 use Rattle.format.proofs.ListLaws.{map-set}
 use Rattle.blocks.specs.Marks.{marked}
@@ -34,7 +35,7 @@ module _ {A B : Type 0} (f : A → B) (xs : List A) where
 -- ---- marks that are no further than a place
 
 abbrev pub Within : List ℕ → ℕ → Type 0
-Within marks n = (length marks ≡ 449) × ((i : ℕ) → getD marks i 0 ≤ n)
+Within marks n = (length marks ≡ entityCount) × ((i : ℕ) → getD marks i 0 ≤ n)
 
 pub within-more : (marks : List ℕ) (m n : ℕ) → Within marks m → m ≤ n → Within marks n
 within-more marks m n w l = (w .0, λ i. omega (arith, w .1 i))
@@ -55,7 +56,7 @@ pub marked-set : (since : ℕ) (marks : List ℕ) (i n : ℕ) → since < n → 
 marked-set since marks i n l = map-set (ltb since) marks i n ∙ ap (set (marked since marks) i) (lt-ltb since n l)
 
 -- From a place on that no mark is behind, none is set.
-pub marked-none : (marks : List ℕ) (n : ℕ) → Within marks n → marked n marks ≡ replicate 449 false
+pub marked-none : (marks : List ℕ) (n : ℕ) → Within marks n → marked n marks ≡ replicate entityCount false
 marked-none marks n w = all marks (w .1) ∙ ap (λ (k : ℕ). replicate k false) (w .0)
   where
     all : (l : List ℕ) → ((i : ℕ) → getD l i 0 ≤ n) → marked n l ≡ replicate (length l) false
@@ -97,7 +98,7 @@ marked-bits [] = refl
 marked-bits (true ∷ ps) = ap₂ _∷_ refl (marked-bits ps)
 marked-bits (false ∷ ps) = ap₂ _∷_ refl (marked-bits ps)
 
-pub within-bits : (present : List Bool) (marks : List ℕ) → marks ≡ map bitOf present → length marks ≡ 449 → Within marks 1
+pub within-bits : (present : List Bool) (marks : List ℕ) → marks ≡ map bitOf present → length marks ≡ entityCount → Within marks 1
 within-bits present marks e l = (l, λ i. subst (λ (x : List ℕ). getD x i 0 ≤ 1) (sym e) (most present i))
   where
     most : (ps : List Bool) (i : ℕ) → getD (map bitOf ps) i 0 ≤ 1

@@ -6,16 +6,21 @@ ghost use Prim.Native.Nat.{ℕ, _+_, _-_, _≤_, _<_};
 ghost use lib.ListN.{length, take, drop};
 ghost use Rattle.format.specs.Bytes.{leWrite, bitOf};
 ghost use Rattle.format.specs.Layout.{number, print};
+ghost use Rattle.dem.specs.Limits.{blockLimit, entityCount, headSize};
 ghost use Rattle.dem.specs.Recording.{angleLayout, blocks as recordingBlocks};
 ghost use Rattle.dem.specs.Scene.{contextOf, inRange};
 ghost use Rattle.format.specs.Codec.{runMost};
-ghost use Rattle.parts.specs.Kinds.{contextOf as numbersOf};
 ghost use Rattle.scene.specs.Views.{sceneWith, sceneOf};
 ghost use Rattle.blocks.specs.Marks.{marked};
 ghost use Rattle.blocks.specs.Runs.{refusedIn, quickUntil, toldOf, answered, stored, put, wroteOf, runOf, wrote};
+use dem::kind;
+use dem::limit::BLOCK_LIMIT;
+use dem::limit::ENTITY_COUNT;
+use dem::limit::HEAD_SIZE;
+use dem::update;
+use format::refusal::AFTER_DISCONNECT;
 use heads::HeadAt;
 use message::Message;
-use parts::Context;
 use scene::Baseline;
 use scene::Rest;
 use scene::Scene;
@@ -30,18 +35,6 @@ pub struct BlocksAt {
     pub next: usize,
     pub refusal: u8,
     pub place: usize,
-}
-
-// The numbers of a scene that the layouts of messages depend on.
-pub fn context(x: Rest) -> Context
-    ensures { λ r. ⌜ ((b e : List (List ℕ)) (p : List Bool) → numbersOf r ≡ contextOf (sceneWith b e p x)) ⌝ }
-{
-    let time = x.time;
-    Context {
-        limit: x.limit,
-        statics: x.statics,
-        time,
-    }
 }
 
 // Also how many bytes were written of them.
@@ -75,10 +68,10 @@ fn refused_in(
 
 // How many bytes a block with so many bytes of messages has, where it is written.
 fn block_size(on: bool, size: usize) -> usize
-    requires { ⌜ size ≤ 8000 ⌝ }
-    ensures { λ r. ⌜ r ≡ cond on (16 + size) 0 ⌝ }
+    requires { ⌜ size ≤ blockLimit ⌝ }
+    ensures { λ r. ⌜ r ≡ cond on (headSize + size) 0 ⌝ }
 {
-    if on { 16 + size } else { 0 }
+    if on { HEAD_SIZE + size } else { 0 }
 }
 
 // A block's head and body into the room, behind what was written from a place on, if it is to be stored.
@@ -91,12 +84,11 @@ fn store_block(
     size: usize,
     body: &[u8],
 )
-    requires { ⌜ (on ≡ true → base + written + 16 + size ≤ length (now out)) × (size ≤ length (now body)) × (size ≤ 8000) ⌝ }
+    requires { ⌜ (on ≡ true → base + written + headSize + size ≤ length (now out)) × (size ≤ length (now body)) × (size ≤ blockLimit) ⌝ }
     ensures { λ r. ⌜ now (out .exit) ≡ put on (now (out .entry)) (base + written) (leWrite 4 size ++ (print angleLayout (number (h .angle0) ∷ number (h .angle1) ∷ number (h .angle2) ∷ []) ++ take size (now (body .entry)))) ⌝ }
 {
     if on {
         normal::put_block(
-            true,
             out,
             base + written,
             size,
@@ -125,25 +117,25 @@ fn quick_until(len: usize, end: usize) -> usize
 // ---- marks as places: an entity is marked where a place of its last update stands behind that of the last time, so that a time
 // touches no mark
 
-fn marks_of(present: [bool; 449]) -> [usize; 449]
+fn marks_of(present: [bool; ENTITY_COUNT]) -> [usize; ENTITY_COUNT]
     ensures { λ r. ⌜ r ≡ map bitOf present ⌝ }
-    ensures long { λ r. ⌜ length r ≡ 449 ⌝ }
+    ensures long { λ r. ⌜ length r ≡ entityCount ⌝ }
 {
-    let mut marks = [0usize; 449];
+    let mut marks = [0usize; ENTITY_COUNT];
     let mut i: usize = 0;
-    while i < 449 {
+    while i < ENTITY_COUNT {
         marks[i] = present[i] as usize;
         i += 1;
     }
     marks
 }
 
-fn present_of(marks: [usize; 449], since: usize) -> [bool; 449]
+fn present_of(marks: [usize; ENTITY_COUNT], since: usize) -> [bool; ENTITY_COUNT]
     ensures { λ r. ⌜ r ≡ marked since marks ⌝ }
 {
-    let mut present = [false; 449];
+    let mut present = [false; ENTITY_COUNT];
     let mut i: usize = 0;
-    while i < 449 {
+    while i < ENTITY_COUNT {
         present[i] = since < marks[i];
         i += 1;
     }
@@ -151,7 +143,7 @@ fn present_of(marks: [usize; 449], since: usize) -> [bool; 449]
 }
 
 // The messages of a block, and slack for the fields of one that are not sent.
-const BODY_SIZE: usize = 8064;
+const BODY_SIZE: usize = BLOCK_LIMIT as usize + 64;
 
 // The blocks from a place to the end, but at most so many; and their normal forms, if they are wanted, into at most so much room from a
 // place of it on. Where the lent room is shorter than that, they are only counted. No copy of the scene is made for a block or a
@@ -185,7 +177,7 @@ pub fn write_blocks(
     let mut refusal: u8 = 0;
     while (blocks < most) & (start < d.len()) {
         if rest.ended {
-            refusal = 11;
+            refusal = AFTER_DISCONNECT;
             break;
         }
         let h = heads::read_head(d, start);
@@ -193,7 +185,7 @@ pub fn write_blocks(
         if refusal != 0 {
             break;
         }
-        let mut at = start + 16;
+        let mut at = start + HEAD_SIZE;
         let end = at + h.size;
         let s = &d[..end];
         let stop = quick_until(d.len(), end);
@@ -201,22 +193,22 @@ pub fn write_blocks(
         let mut kept = at;
         while at < s.len() {
             if rest.ended {
-                return refused_in(given, blocks, start, 11, at, written);
+                return refused_in(given, blocks, start, AFTER_DISCONNECT, at, written);
             }
             // Updates one after the other, as long as each is good, can be loaded whole and, where it is written, is in normal form.
             while on & (at < stop) {
                 let k = d[at];
-                if k < 128 {
+                if k < kind::UPDATE {
                     break;
                 }
                 let q = quick::update_head(d, at + 1, k);
                 let entity = q.entity;
                 let i = message::index_of(entity);
                 let mask = q.mask;
-                if 449 <= i {
+                if ENTITY_COUNT <= i {
                     break;
                 }
-                if 32768 <= mask {
+                if update::MASK_BOUND <= mask {
                     break;
                 }
                 if q.needless {
@@ -239,17 +231,17 @@ pub fn write_blocks(
             }
             while !on & (at < stop) {
                 let k = d[at];
-                if k < 128 {
+                if k < kind::UPDATE {
                     break;
                 }
                 let q = quick::update_head(d, at + 1, k);
                 let entity = q.entity;
                 let i = message::index_of(entity);
                 let mask = q.mask;
-                if 449 <= i {
+                if ENTITY_COUNT <= i {
                     break;
                 }
-                if 32768 <= mask {
+                if update::MASK_BOUND <= mask {
                     break;
                 }
                 let b = baselines[i];
@@ -273,14 +265,14 @@ pub fn write_blocks(
                 refusal: 0,
             };
             match k {
-                128..=255 => {
+                kind::UPDATE..=255 => {
                     // One that is to be put anew is loaded again, where all its bytes are there.
                     if on & (at < stop) {
                         let q = quick::update_head(d, at + 1, k);
                         let entity = q.entity;
                         let i = message::index_of(entity);
                         let mask = q.mask;
-                        if (i < 449) & (mask < 32768) {
+                        if (i < ENTITY_COUNT) & (mask < update::MASK_BOUND) {
                             let b = baselines[i];
                             let f = quick::update_fields(d, q.next, mask, b);
                             let to = f.next;
@@ -338,7 +330,7 @@ pub fn write_blocks(
                     marks[i] = at;
                     at = to;
                 }
-                6 => {
+                kind::SOUND => {
                     let t = masked::sound_at(s, c);
                     let next = t.cursor;
                     let wrong = next.refusal;
@@ -352,8 +344,8 @@ pub fn write_blocks(
                     kept = w.kept;
                     at = to;
                 }
-                7 => {
-                    let t = plain::time_at(s, c, context(rest));
+                kind::TIME => {
+                    let t = plain::time_at(s, c, scene::context(rest));
                     let next = t.cursor;
                     let wrong = next.refusal;
                     if wrong != 0 {
@@ -363,7 +355,7 @@ pub fn write_blocks(
                     rest = scene::with_time(rest, t.value);
                     at = next.at;
                 }
-                15 => {
+                kind::CLIENTDATA => {
                     let t = quick::client_at(s, at + 1);
                     let next = t.cursor;
                     let wrong = next.refusal;
@@ -389,7 +381,7 @@ pub fn write_blocks(
                 }
                 _ => {
                     if reader::is_passed(k) {
-                        let next = reader::pass_message(s, c, k, context(rest));
+                        let next = reader::pass_message(s, c, k, scene::context(rest));
                         let wrong = next.refusal;
                         if wrong != 0 {
                             return refused_in(given, blocks, start, wrong, at, written);
@@ -398,7 +390,7 @@ pub fn write_blocks(
                         messages += 1;
                         continue;
                     }
-                    let m = reader::read_message(s, at, context(rest));
+                    let m = reader::read_message(s, at, scene::context(rest));
                     let next = m.cursor;
                     let wrong = next.refusal;
                     if wrong != 0 {
@@ -420,7 +412,7 @@ pub fn write_blocks(
                             rest = clear.rest;
                         }
                         _ => {
-                            rest = scene::apply_rest(rest, message);
+                            rest = scene::apply_rest(rest, message, s);
                         }
                     }
                     at = to;

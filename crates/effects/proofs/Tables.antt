@@ -8,6 +8,7 @@ use borrow.Author.Tests.{le-leb}
 use lib.Dec.{T}
 use lib.ListN.{set, replicate}
 use Rattle.dem.specs.Kind
+use Rattle.dem.specs.Limits.{entityCount}
 use Rattle.format.specs.Layout.{Value, number, numbers, tail}
 use Rattle.dem.specs.Scene.{Scene, Baseline, baselineAt}
 use Rattle.dem.specs.Message.{fillUpdate, fill, apply}
@@ -31,14 +32,14 @@ use Rattle.scene.specs.declared.Rest.{Rest}
 use Rattle.scene.specs.declared.Record.{Record}
 
 -- What an update does, by the record that it is filled in to.
-pub update-applied : (s : Scene) (u : Update) (r : Record) (b : Baseline) → 128 ≤ u .number → b ≡ baselineAt s (u .entity .0)
+pub update-applied : (s : Scene) (u : Update) (r : Record) (b : Baseline) → Kind.update ≤ u .number → b ≡ baselineAt s (u .entity .0)
     → number Kind.update ∷ number (u .entity .0) ∷ recordValues r ≡ fillUpdate b (u .number) (tail (updateValues u))
     → withTables (s .baselines) (set (s .records) (u .entity .0) (numbers (recordValues r))) (set (s .present) (u .entity .0) true) s
     ≡ apply s (fill s (updateValues u))
 unfolding apply
 update-applied s u r b h e f =
     ap (apply s) (f ∙ ap (λ (x : Baseline). fillUpdate x (u .number) (tail (updateValues u))) e
-    ∙ sym (fill-update s (u .number) (tail (updateValues u)) (le-leb 128 (u .number) h)))
+    ∙ sym (fill-update s (u .number) (tail (updateValues u)) (le-leb Kind.update (u .number) h)))
 
 -- A message that a pattern matched.
 pub matched : (s : Scene) (t : Text → List ℕ) (m k : Sent) → m ≡ k → apply s (fill s (valuesBy t k)) ≡ apply s (fill s (valuesBy t m))
@@ -47,7 +48,7 @@ matched s t m k e = ap (λ (x : Sent). apply s (fill s (valuesBy t x))) (sym e)
 -- A time clears every mark.
 pub time-tables : (s : Scene) (t : Text → List ℕ) (m : Sent) (v : ℕ) → m ≡ M.Time v
     → (apply s (fill s (valuesBy t m)) .baselines ≡ s .baselines) × (apply s (fill s (valuesBy t m)) .records ≡ s .records)
-    × (apply s (fill s (valuesBy t m)) .present ≡ replicate 449 false)
+    × (apply s (fill s (valuesBy t m)) .present ≡ replicate entityCount false)
 unfolding apply fill
 time-tables s t m v e = (
   ap (λ (x : Sent). apply s (fill s (valuesBy t x)) .baselines) e,

@@ -6,10 +6,11 @@ ghost use Rattle.dem.specs.Kind;
 ghost use Rattle.format.specs.Layout.{Value, number};
 ghost use Rattle.dem.specs.Message.{apply, fill};
 ghost use Rattle.message.specs.declared.Message.{Message};
-ghost use Rattle.message.specs.Values.{lookValues, poseValues, updateValues, valuesBy};
+ghost use Rattle.message.specs.Values.{lookValues, poseValues, updateValues, valuesBy, valuesOf};
 ghost use Rattle.scene.specs.Views.{sceneOf, baselineNumbers, Numbered, filledBy};
 ghost use Rattle.dem.specs.Scene.{baselineAt};
 ghost use Rattle.wire.specs.declared.Text.{Text};
+use dem::limit::ENTITY_COUNT;
 use message::Entity;
 use message::Look;
 use message::Message;
@@ -24,7 +25,7 @@ pub fn baseline_of(s: Scene, entity: Entity) -> Baseline
     ensures { λ r. ⌜ baselineNumbers r ≡ baselineAt (sceneOf s) (entity .0) ⌝ }
 {
     let i = message::index_of(entity);
-    if i < 449 {
+    if i < ENTITY_COUNT {
         let b = s.baselines[i];
         return b;
     }
@@ -50,7 +51,7 @@ fn with_baseline(s: Scene, entity: Entity, look: Look, pose: Pose) -> Scene
 {
     let i = message::index_of(entity);
     let mut y = s;
-    if i < 449 {
+    if i < ENTITY_COUNT {
         let b = Baseline { look, pose };
         y.baselines[i] = b;
     }
@@ -58,24 +59,24 @@ fn with_baseline(s: Scene, entity: Entity, look: Look, pose: Pose) -> Scene
 }
 
 fn with_update(s: Scene, u: Update) -> Scene
-    ensures { λ r. ⌜ (128 ≤ u .number → sceneOf r ≡ apply (sceneOf s) (fill (sceneOf s) (updateValues u))) ⌝ }
+    ensures { λ r. ⌜ (Kind.update ≤ u .number → sceneOf r ≡ apply (sceneOf s) (fill (sceneOf s) (updateValues u))) ⌝ }
 {
     let entity = u.entity;
     let i = message::index_of(entity);
     let b = baseline_of(s, entity);
     let record = scene::fill_update(u, b);
     let mut y = s;
-    if i < 449 {
+    if i < ENTITY_COUNT {
         y.records[i] = record;
         y.present[i] = true;
     }
     y
 }
 
-// The scene after a message.
-pub fn scene_after(s: Scene, m: Message) -> Scene
+// The scene after a message, whose strings are places in a text.
+pub fn scene_after(s: Scene, m: Message, text: &[u8]) -> Scene
     requires { ⌜ s .rest .statics < 255 ⌝ }
-    ensures { λ r. ⌜ ((t : Text → List ℕ) → Numbered m → sceneOf r ≡ apply (sceneOf s) (fill (sceneOf s) (valuesBy t m))) ⌝ }
+    ensures { λ r. ⌜ (Numbered m → sceneOf r ≡ apply (sceneOf s) (fill (sceneOf s) (valuesOf (now (text .entry)) m))) ⌝ }
 {
     match m {
         Message::Update(u) => with_update(s, u),
@@ -83,8 +84,8 @@ pub fn scene_after(s: Scene, m: Message) -> Scene
         Message::Serverinfo(i) => scene::cleared_scene(i.limit),
         Message::Time(_) => {
             let rest = s.rest;
-            let after = scene::apply_rest(rest, m);
-            let present = [false; 449];
+            let after = scene::apply_rest(rest, m, text);
+            let present = [false; ENTITY_COUNT];
             let mut y = s;
             y.present = present;
             y.rest = after;
@@ -92,7 +93,7 @@ pub fn scene_after(s: Scene, m: Message) -> Scene
         }
         _ => {
             let rest = s.rest;
-            let after = scene::apply_rest(rest, m);
+            let after = scene::apply_rest(rest, m, text);
             let mut y = s;
             y.rest = after;
             y

@@ -17,3 +17,5 @@ pub mod CallLaws
 pub mod NormalCallLaws
 pub mod ProgressLaws
 pub mod RewritingLaws
+pub mod EachLaws
+pub mod BitLaws

@@ -84,13 +84,16 @@ answered bs rest size vs refusal = cond (eqb refusal 0) (found (size, vs) rest) 
 
 -- The number that was read is the one that stands there, and what is read next stands behind it.
 behind : (s : List ℕ) (v x : ℕ) (c : Cursor) (rest : List ℕ) (l : Layout) → gotten s v c ≡ found x rest
-    → (v ≡ x) × (parseAt s c l ≡ refusedAt [] (parse l rest))
+    → (v ≡ x) × (parseAt s c l ≡ parse l rest)
 unfolding gotten parseAt
 behind s v x c rest l e = go (eqb (c .refusal) 0) e
   where
-    go : (b : Bool) → cond b (found v (drop (c .at) s)) (refused (c .refusal) []) ≡ found x rest
-        → (v ≡ x) × (cond b (refusedAt [] (parse l (drop (c .at) s))) (refused (c .refusal) []) ≡ refusedAt [] (parse l rest))
-    go true e = ((cc), ap (λ (m : List ℕ). refusedAt [] (parse l m)) (cc))
+    left : List ℕ
+    left = drop (c .at) s
+
+    go : (b : Bool) → cond b (found v left) (refused (c .refusal) left) ≡ found x rest
+        → (v ≡ x) × (cond b (parse l left) (refused (c .refusal) left) ≡ parse l rest)
+    go true e = ((cc), ap (parse l) (cc))
     go false e = clash (cc)
 
 tested : (bs rest : List ℕ) (size : ℕ) (vs : List Value) (angles : ℕ) (q : Result (ℕ × List Value)) → answered bs rest size vs angles ≡ q
@@ -109,7 +112,7 @@ module _ (bs : List ℕ) (h : Bytes bs) where
       let r : Read angleLayout (drop 4 bs) vs rest = parse-sound angleLayout (drop 4 bs) vs rest (drop-bytes 4 bs h) e in
       sym (drop-drop 12 4 bs) ∙ ap (drop 12) (sym (r .tiles)) ∙ drop-at (print angleLayout vs) rest 12 (angles-length vs (r .fits))
 
-  angles-read : (s : List ℕ) (size : ℕ) (vs : List Value) (c : Cursor) → gotten s vs c ≡ refusedAt [] (parse angleLayout (drop 4 bs))
+  angles-read : (s : List ℕ) (size : ℕ) (vs : List Value) (c : Cursor) → gotten s vs c ≡ parse angleLayout (drop 4 bs)
       → answered bs (drop headSize bs) size vs (c .refusal) ≡ mapResult (λ angles. (size, angles)) (refusedAt bs (parse angleLayout (drop 4 bs)))
   unfolding gotten
   angles-read s size vs c e = go (eqb (c .refusal) 0) (parse angleLayout (drop 4 bs)) angles-end e
@@ -118,7 +121,7 @@ module _ (bs : List ℕ) (h : Bytes bs) where
       sized angles = (size, angles)
 
       go : (b : Bool) (q : Result (List Value)) → ((us : List Value) (rest : List ℕ) → q ≡ found us rest → drop headSize bs ≡ rest)
-          → cond b (found vs (drop (c .at) s)) (refused (c .refusal) []) ≡ refusedAt [] q
+          → cond b (found vs (drop (c .at) s)) (refused (c .refusal) (drop (c .at) s)) ≡ q
           → cond b (found (sized vs) (drop headSize bs)) (refused (c .refusal) bs) ≡ mapResult sized (refusedAt bs q)
       go true (found us rest) k e = let z : vs ≡ us = cc in ap₂ (λ (l : List Value) (m : List ℕ). found (sized l) m) z (k us rest refl)
       go true (refused n left) k e = clash (cc)
@@ -139,7 +142,7 @@ head-whole s at size vs c d h p q l =
     let bs : List ℕ = drop at s in
     let n = behind s size (leRead (take 4 bs)) c (drop (at + 4) s) angleLayout (p ∙ sym (number-here s (here at) 4 (leRead (take 4 bs)) refl l refl)) in
     tested bs (drop headSize bs) size vs (d .refusal) _
-    (angles-read bs h s size vs d (q ∙ n .1 ∙ ap (λ (m : List ℕ). refusedAt [] (parse angleLayout m)) (sym (drop-drop 4 at s))))
+    (angles-read bs h s size vs d (q ∙ n .1 ∙ ap (parse angleLayout) (sym (drop-drop 4 at s))))
     (leb headSize (length bs)) (leb size blockLimit) (leb (headSize + size) (length bs))
     ∙ ap (λ (k : ℕ). sizedHead k bs) (n .0)
 

@@ -15,6 +15,12 @@ ghost use Rattle.dem.specs.Recording.{angleLayout};
 ghost use Rattle.wire.specs.Cursors.{gotten, numberAt, parseAt};
 ghost use Rattle.heads.specs.Heads.{headRefusal, headOf, headIn};
 ghost use Rattle.heads.specs.Tracks.{answerAt, digitsFrom, trackOf};
+use dem::limit::BLOCK_LIMIT;
+use dem::limit::HEAD_SIZE;
+use format::refusal::CUT_BLOCK;
+use format::refusal::LONG_BLOCK;
+use format::refusal::WRONG_ANGLE;
+use format::refusal::WRONG_TRACK;
 use wire::Cursor;
 use wire::Number;
 
@@ -46,7 +52,7 @@ fn read_angle(s: &[u8], c: Cursor) -> Number
 {
     let n = wire::read_number(s, c, 4);
     let value = n.value;
-    let cursor = wire::refuse_if(n.cursor, !is_finite(value), 4);
+    let cursor = wire::refuse_if(n.cursor, c.at, !is_finite(value), WRONG_ANGLE);
     Number { value, cursor }
 }
 
@@ -76,12 +82,12 @@ fn left_at(end: usize, at: usize) -> usize
 fn head_refusal(left: usize, size: u32, angles: u8) -> u8
     ensures { λ r. ⌜ r ≡ headRefusal left size angles ⌝ }
 {
-    if left < 16 {
-        2
-    } else if 8000 < size {
-        3
-    } else if left < 16 + size as usize {
-        2
+    if left < HEAD_SIZE {
+        CUT_BLOCK
+    } else if BLOCK_LIMIT < size {
+        LONG_BLOCK
+    } else if left < HEAD_SIZE + size as usize {
+        CUT_BLOCK
     } else {
         angles
     }
@@ -143,7 +149,7 @@ fn read_digits(s: &[u8], start: usize) -> DigitsAt
             return DigitsAt {
                 value,
                 at,
-                refusal: 1,
+                refusal: WRONG_TRACK,
             };
         }
         value = value * 10 + (b - b'0') as u16;
@@ -153,7 +159,7 @@ fn read_digits(s: &[u8], start: usize) -> DigitsAt
     DigitsAt {
         value,
         at: s.len(),
-        refusal: 1,
+        refusal: WRONG_TRACK,
     }
 }
 

@@ -23,7 +23,7 @@ use Rattle.wire.specs.declared.Text.{Text}
 use Rattle.wire.proofs.FieldLaws.{Held, from, from-front}
 use Rattle.strings.specs.Names.{namesIn}
 use Rattle.strings.proofs.Places.{placed-inside}
-use Rattle.strings.proofs.NameLaws.{Texts, namesLength, names-length, lists-texts}
+use Rattle.strings.proofs.NameLaws.{Texts, joined, names-joined, lists-texts}
 use Rattle.message.specs.declared.Temporary.{Temporary}
 use Rattle.message.specs.declared.Temporary.the-variants.{Point, Line}
 use Rattle.message.specs.declared.Serverinfo.{Serverinfo}
@@ -46,7 +46,7 @@ ending end t = record { start = end - (length t + 1); len = length t }
 
 -- Strings that end there, with their zeros.
 abbrev namesEnding : ℕ → List Value → Text
-namesEnding end vs = record { start = end - namesLength vs; len = namesLength vs }
+namesEnding end vs = record { start = end - length (joined vs); len = length (joined vs) }
 
 -- A temporary entity has one vector, or an entity and two.
 abbrev temporaryFrom : List ℕ → Temporary
@@ -135,14 +135,14 @@ module _ (s : List ℕ) (end : ℕ) (within : end ≤ length s) where
   names-back : (p : Text) → eqb (p .start + p .len) end ≡ true → Texts (namesIn [] (placed s p)) → namesEnding end (namesIn [] (placed s p)) ≡ p
   names-back p e t =
       let h : p .start + p .len ≡ end = eqb-true (p .start + p .len) end e in
-      let n : namesLength (namesIn [] (placed s p)) ≡ p .len = names-length [] (placed s p) t ∙ omega (arith, inside s p (omega arith)) in
-      let a : end - namesLength (namesIn [] (placed s p)) ≡ p .start = omega arith in
+      let n : length (joined (namesIn [] (placed s p))) ≡ p .len = ap length (names-joined [] (placed s p) t) ∙ omega (arith, inside s p (omega arith)) in
+      let a : end - length (joined (namesIn [] (placed s p))) ≡ p .start = omega arith in
       λ i. record { start = a i; len = n i }
 
 -- ---- and there again
 
 -- The fields of a value's own variant.
-abbrev Fit : Message → Type 0
+abbrev pub Fit : Message → Type 0
 Fit m = Fields (variants MessageType.the-type) (spellss (MessageType.the-type .parts) MessageLaws.the-laws) (MessageType.the-type .to m)
 
 temporary-back : (k : Temporary)

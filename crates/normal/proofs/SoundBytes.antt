@@ -1,13 +1,10 @@
 -- The bytes of a sound in normal form: number and mask, the fields that differ, then its place. No other message is a sound.
 -- Assumes nothing.
-use mathlib.Core.Path.{_≡_, refl, sym, ap, _∙_, subst}
+use mathlib.Core.Path.{_≡_, refl, sym, ap, _∙_}
 use mathlib.Core.List.{List, [], _∷_, _++_}
 use mathlib.Core.Option.{Option, none, some}
-use Prim.Native.Nat.{ℕ, _+_, _-_, _*_, _%_}
+use Prim.Native.Nat.{ℕ, _+_, _*_, _%_}
 use native.Mathlib.Omega.{arith}
-use lib.ListN.{take, drop}
-use denote.Enum.Declared.{tagOf}
-use types.Run.{OneOf, miss}
 use Rattle.dem.specs.Kind
 use Rattle.format.specs.Bytes.{leWrite, bit, fromBits}
 use Rattle.format.specs.Layout.{Value, number, Layout, done, print, tail}
@@ -16,7 +13,6 @@ use Rattle.dem.specs.Scene.{Context}
 use Rattle.dem.specs.Message.{layout, kindLayout, row, soundSlots, soundTail, fillSound, sendSound}
 use Rattle.format.proofs.ByteLaws.{bit-from}
 use Rattle.format.proofs.MaskedLaws.{Chosen, Agree, behind, agree-below, agree-layout}
-use Rattle.message.proofs.Message as Messages
 use Rattle.message.specs.declared.Message.{Message}
 use Rattle.message.specs.declared.Message.the-variants as M
 use Rattle.message.specs.declared.Sound.{Sound}
@@ -25,7 +21,7 @@ use Rattle.scene.specs.Views.{filledSoundValues}
 use Rattle.scene.specs.declared.FilledSound.{FilledSound}
 use Rattle.normal.specs.Put.{Put}
 use Rattle.normal.specs.Sent.{sentBytes}
-use Rattle.normal.specs.Normal.{vectorBytes, placeBytes, soundOf, soundBytes, otherBytes}
+use Rattle.normal.specs.Normal.{vectorBytes, placeBytes, soundOf}
 use Rattle.normal.proofs.PutLaws.{put-same, put-then, second-byte}
 use Rattle.normal.proofs.UpdateBytes.{slot-bytes}
 
@@ -82,10 +78,6 @@ module _ (s : FilledSound) where
 
 -- ---- which message is a sound
 
--- The messages that are none, by their place in the list of messages.
-abbrev pub others : List ℕ
-others = 0 ∷ 1 ∷ 2 ∷ 3 ∷ 4 ∷ 6 ∷ 7 ∷ 8 ∷ 9 ∷ 10 ∷ 11 ∷ 12 ∷ 13 ∷ 14 ∷ 15 ∷ 16 ∷ 17 ∷ 18 ∷ 19 ∷ 20 ∷ 21 ∷ 22 ∷ 23 ∷ 24 ∷ 25 ∷ 26 ∷ 27 ∷ 28 ∷ 29 ∷ 30 ∷ 31 ∷ 32 ∷ 33 ∷ []
-
 pub no-sound : (m : Message) → ((v : Sound) → m ≡ M.Sound v → ⊥) → soundOf m ≡ none
 no-sound M.Nop h = refl
 no-sound M.Disconnect h = refl
@@ -122,18 +114,7 @@ no-sound M.Sellscreen h = refl
 no-sound (M.Cutscene _) h = refl
 no-sound (M.Update _) h = refl
 
-pub not-sound : (m : Message) → OneOf others (tagOf Messages.the-type m) → soundOf m ≡ none
-not-sound m h = no-sound m (λ v e. miss others 5 tt (subst (λ (n : Message). OneOf others (tagOf Messages.the-type n)) e h))
-
 -- A sound's bytes, from its fields filled in.
 pub sound-sent : (x : Context) (v : Sound) (f : FilledSound) → number Kind.sound ∷ filledSoundValues f ≡ fillSound (soundValues v)
     → print (layout x) (sendSound (filledSoundValues f)) ≡ print (layout x) (sendSound (tail (fillSound (soundValues v))))
 sound-sent x v f = ap (λ (vs : List Value). print (layout x) (sendSound (tail vs)))
-
-module _ (x : Context) (s : List ℕ) (from to : ℕ) (m : Message) where
-  pub other-sound : (v : Sound) (f : FilledSound) → m ≡ M.Sound v → number Kind.sound ∷ filledSoundValues f ≡ fillSound (soundValues v)
-      → print (layout x) (sendSound (filledSoundValues f)) ≡ otherBytes x s from to m
-  other-sound v f e h = sound-sent x v f h ∙ ap (λ (n : Message). otherBytes x s from to n) (sym e)
-
-  pub other-copied : soundOf m ≡ none → take (to - from) (drop from s) ≡ otherBytes x s from to m
-  other-copied e = ap (λ (o : Option Sound). soundBytes x (take (to - from) (drop from s)) o) (sym e)

@@ -1,9 +1,8 @@
--- The bytes of a message that is neither an update nor clientdata.
+-- The bytes of a sound, and which message is one.
 use mathlib.Core.List.{List, _++_}
 use mathlib.Core.Bool.{Bool, true, false}
 use mathlib.Core.Option.{Option, none, some}
-use Prim.Native.Nat.{ℕ, _+_, _-_, _*_}
-use lib.ListN.{take, drop}
+use Prim.Native.Nat.{ℕ, _+_, _*_}
 use mir.Val.{ofZ}
 use mir.Syntax.{w16}
 use Rattle.format.specs.Bytes.{leWrite}
@@ -65,6 +64,3 @@ soundOf (M.Update _) = none
 abbrev pub soundBytes : Context → List ℕ → Option Sound → List ℕ
 soundBytes x read none = read
 soundBytes x read (some v) = print (layout x) (sendSound (tail (fillSound (soundValues v))))
-
-abbrev pub otherBytes : Context → List ℕ → ℕ → ℕ → Message → List ℕ
-otherBytes x s from to m = soundBytes x (take (to - from) (drop from s)) (soundOf m)

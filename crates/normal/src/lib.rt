@@ -8,6 +8,7 @@ ghost use lib.ListN.{length, take, drop};
 ghost use lib.Seq.{sets};
 ghost use Rattle.format.specs.Bytes.{leWrite, bitOf, fromBits};
 ghost use Rattle.format.specs.Layout.{Value, number, print, tail};
+ghost use Rattle.dem.specs.Limits.{headSize};
 ghost use Rattle.dem.specs.Scene.{Context};
 ghost use Rattle.dem.specs.Message.{layout, highByte, updateNumber, updateSlots, sendUpdate, clientSlots, clientMask, sendClient, fillSound};
 ghost use Rattle.dem.specs.Message.{sendSound};
@@ -17,11 +18,14 @@ ghost use Rattle.scene.specs.Views.{baselineNumbers, recordValues, clientValues
 ghost use Rattle.normal.specs.Put.{Put, Behind};
 ghost use Rattle.normal.specs.Sent.{sentBytes, defaults, bitsOf, bitsValues, fieldValues, lookSlots, poseSlots, updateBits, headBytes};
 ghost use Rattle.normal.specs.Client.{motionBits, motionBitsValues, fourSlots, clientFields, countsBytes, suppliesBytes};
-ghost use Rattle.normal.specs.Normal.{vectorBytes, placeBytes, otherBytes};
+ghost use Rattle.normal.specs.Normal.{vectorBytes, placeBytes};
+use dem::kind;
+use dem::limit::DEFAULT_ATTENUATION;
+use dem::limit::DEFAULT_VIEW_HEIGHT_BITS;
+use dem::limit::DEFAULT_VOLUME;
 use message::Arms;
 use message::Entity;
 use message::Look;
-use message::Message;
 use message::Motion;
 use message::Pose;
 use message::Sound;
@@ -175,20 +179,10 @@ fn put_fields(
 }
 
 // An update of the entity to this record, whose baseline is given.
-pub fn put_update(
-    on: bool,
-    out: &mut [u8],
-    at: usize,
-    entity: Entity,
-    r: Record,
-    b: Baseline,
-) -> usize
+pub fn put_update(out: &mut [u8], at: usize, entity: Entity, r: Record, b: Baseline) -> usize
     requires { ⌜ at + 24 ≤ length (now out) ⌝ }
-    ensures { λ q. ⌜ ((x : Context) → Put (now (out .entry)) (now (out .exit)) at q (cond on (print (layout x) (sendUpdate (baselineNumbers b) (number (entity .0) ∷ recordValues r))) [])) ⌝ }
+    ensures { λ q. ⌜ ((x : Context) → Put (now (out .entry)) (now (out .exit)) at q (print (layout x) (sendUpdate (baselineNumbers b) (number (entity .0) ∷ recordValues r)))) ⌝ }
 {
-    if !on {
-        return at;
-    }
     let l = r.look;
     let l0 = b.look;
     let p = pose_bits(r.pose);
@@ -241,7 +235,7 @@ fn client_mask(ground: bool, water: bool, m: MotionBits, w: Arms) -> u16
     ensures { λ r. ⌜ ((items : ℕ) (vs : List Value) → r ≡ fromBits 16 (clientMask ground water (clientFields m items w vs))) ⌝ }
 {
     let a = four_bits(
-        m.view_height != 22,
+        m.view_height != DEFAULT_VIEW_HEIGHT_BITS,
         m.pitch != 0,
         m.punch0 != 0,
         m.punch1 != 0,
@@ -279,7 +273,15 @@ fn put_motion(out: &mut [u8], at: usize, m: MotionBits) -> usize
     ensures { λ q. ⌜ Put (now (out .entry)) (now (out .exit)) at q (sentBytes (take 8 clientSlots) (motionBitsValues m)) ⌝ }
     ensures near { λ q. ⌜ q ≤ at + 8 ⌝ }
 {
-    let q = put_four(out, at, m.view_height, 22, m.pitch, m.punch0, m.velocity0);
+    let q = put_four(
+        out,
+        at,
+        m.view_height,
+        DEFAULT_VIEW_HEIGHT_BITS,
+        m.pitch,
+        m.punch0,
+        m.velocity0,
+    );
     put_four(out, q, m.punch1, 0, m.velocity1, m.punch2, m.velocity2)
 }
 
@@ -332,19 +334,16 @@ fn put_states(out: &mut [u8], at: usize, m: MotionBits, items: u32, w: Arms, s: 
     put_supplies(out, c, s)
 }
 
-pub fn put_client(on: bool, out: &mut [u8], at: usize, c: Client) -> usize
+pub fn put_client(out: &mut [u8], at: usize, c: Client) -> usize
     requires { ⌜ at + 32 ≤ length (now out) ⌝ }
-    ensures { λ q. ⌜ ((x : Context) → Put (now (out .entry)) (now (out .exit)) at q (cond on (print (layout x) (sendClient (clientValues c))) [])) ⌝ }
+    ensures { λ q. ⌜ ((x : Context) → Put (now (out .entry)) (now (out .exit)) at q (print (layout x) (sendClient (clientValues c)))) ⌝ }
 {
-    if !on {
-        return at;
-    }
     let w = c.arms;
     let s = c.supplies;
     let m = motion_bits(c.motion);
     let items = pieces::unsigned32(c.items);
     let mask = client_mask(c.ground, c.water, m, w);
-    let a = put_byte_if(out, at, true, 15);
+    let a = put_byte_if(out, at, true, kind::CLIENTDATA);
     let b = put_short_if(out, a, true, mask);
     put_states(out, b, m, items, w, s)
 }
@@ -376,19 +375,22 @@ fn put_place(out: &mut [u8], at: usize, s: FilledSound) -> usize
     put_vector(out, b, v)
 }
 
-fn put_sound(out: &mut [u8], at: usize, s: FilledSound) -> usize
+pub fn put_sound(out: &mut [u8], at: usize, s: FilledSound) -> usize
     requires { ⌜ at + 16 ≤ length (now out) ⌝ }
     ensures { λ q. ⌜ ((x : Context) → Put (now (out .entry)) (now (out .exit)) at q (print (layout x) (sendSound (filledSoundValues s)))) ⌝ }
 {
-    let mask = four_bits(s.volume != 255, s.attenuation != 64, false, false);
-    let a = put_byte_if(out, at, true, 6);
+    let mask = four_bits(
+        s.volume != DEFAULT_VOLUME,
+        s.attenuation != DEFAULT_ATTENUATION,
+        false,
+        false,
+    );
+    let a = put_byte_if(out, at, true, kind::SOUND);
     let b = put_byte_if(out, a, true, mask);
-    let c = put_byte_if(out, b, s.volume != 255, s.volume);
-    let d = put_byte_if(out, c, s.attenuation != 64, s.attenuation);
+    let c = put_byte_if(out, b, s.volume != DEFAULT_VOLUME, s.volume);
+    let d = put_byte_if(out, c, s.attenuation != DEFAULT_ATTENUATION, s.attenuation);
     put_place(out, d, s)
 }
-
-// ---- other messages
 
 // The bytes as they were read.
 pub fn put_copy(on: bool, out: &mut [u8], at: usize, s: &[u8], from: usize, to: usize) -> usize
@@ -399,28 +401,6 @@ pub fn put_copy(on: bool, out: &mut [u8], at: usize, s: &[u8], from: usize, to: 
         return at;
     }
     pieces::put_text(out, at, s, from, to - from)
-}
-
-// A sound anew, every other message as it was read.
-pub fn put_other(
-    on: bool,
-    out: &mut [u8],
-    at: usize,
-    s: &[u8],
-    from: usize,
-    to: usize,
-    m: Message,
-) -> usize
-    requires { ⌜ (from ≤ to) × (at + length (take (to - from) (drop from (now s))) ≤ length (now out)) × (at + 16 ≤ length (now out)) ⌝ }
-    ensures { λ q. ⌜ ((x : Context) → Put (now (out .entry)) (now (out .exit)) at q (cond on (otherBytes x (now (s .entry)) from to m) [])) ⌝ }
-{
-    if !on {
-        return at;
-    }
-    match m {
-        Message::Sound(v) => put_sound(out, at, scene::fill_sound(v)),
-        _ => put_copy(true, out, at, s, from, to),
-    }
 }
 
 // ---- behind input that is kept as it was read
@@ -453,7 +433,7 @@ pub fn put_update_behind(
     let record = r;
     let baseline = b;
     let a = put_copy(true, out, size, s, kept, at);
-    let end = put_update(true, out, a, entity, record, baseline);
+    let end = put_update(out, a, entity, record, baseline);
     Scratch {
         size: end,
         kept: to,
@@ -479,7 +459,7 @@ pub fn put_client_behind(
     }
     let client = c;
     let a = put_copy(true, out, size, s, kept, at);
-    let end = put_client(true, out, a, client);
+    let end = put_client(out, a, client);
     Scratch {
         size: end,
         kept: to,
@@ -516,7 +496,6 @@ pub fn put_sound_behind(
 
 // A block's head, then the first `size` bytes of the body; into lent room, of which every byte is promised.
 pub fn put_block(
-    on: bool,
     room: &mut [u8],
     at: usize,
     size: usize,
@@ -525,14 +504,12 @@ pub fn put_block(
     angle2: u32,
     body: &[u8],
 )
-    requires { ⌜ (on ≡ true → at + 16 + size ≤ length (now room)) × (size ≤ length (now body)) × (size < 2 ^ 32) ⌝ }
-    ensures { λ q. ⌜ now (room .exit) ≡ cond on (sets (now (room .entry)) at (leWrite 4 size ++ (print angleLayout (number angle0 ∷ number angle1 ∷ number angle2 ∷ []) ++ take size (now (body .entry))))) (now (room .entry)) ⌝ }
+    requires { ⌜ (at + headSize + size ≤ length (now room)) × (size ≤ length (now body)) × (size < 2 ^ 32) ⌝ }
+    ensures { λ q. ⌜ now (room .exit) ≡ sets (now (room .entry)) at (leWrite 4 size ++ (print angleLayout (number angle0 ∷ number angle1 ∷ number angle2 ∷ []) ++ take size (now (body .entry)))) ⌝ }
 {
-    if on {
-        let a = pieces::put_number(room, at, 4, size as u32);
-        let b = pieces::put_number(room, a, 4, angle0);
-        let c = pieces::put_number(room, b, 4, angle1);
-        let d = pieces::put_number(room, c, 4, angle2);
-        pieces::put_text(room, d, body, 0, size);
-    }
+    let a = pieces::put_number(room, at, 4, size as u32);
+    let b = pieces::put_number(room, a, 4, angle0);
+    let c = pieces::put_number(room, b, 4, angle1);
+    let d = pieces::put_number(room, c, 4, angle2);
+    pieces::put_text(room, d, body, 0, size);
 }

@@ -3,24 +3,20 @@
 -- Assumes nothing.
 use mathlib.Core.Path.{_≡_, refl, sym, ap, ap₂, _∙_, subst, subst₂}
 use mathlib.Core.List.{List, [], _∷_, _++_, append-nil}
-use mathlib.Core.Bool.{Bool, true, false, cond, _&&_}
-use Prim.Native.Nat.{ℕ, zero, suc, _+_, _<_}
-use native.Mathlib.Omega.{arith}
-use borrow.Author.Tests.{eqb-true, ltb-true}
-use lib.Dec.{eqb, ltb, lit<}
-use lib.ListN.{length, getD}
+use mathlib.Core.Bool.{Bool, true, false, cond}
+use Prim.Native.Nat.{ℕ}
+use borrow.Author.Tests.{le-leb}
 use mir.Val.{ofZ}
 use mir.Syntax.{w32}
 use Rattle.dem.specs.Limits.{nameLimit}
 use Rattle.dem.specs.Kind
 use Rattle.format.specs.Bytes.{leWrite, writeString}
-use Rattle.format.specs.Layout.{Value, number, text, Layout, done, field, split, string, print, allows, tail}
+use Rattle.format.specs.Layout.{Value, number, text, Layout, done, print, allows, tail}
 use Rattle.dem.specs.Scene.{Context}
-use Rattle.dem.specs.Message.{Field, byte, short, long, chars, entity, player, statIndex, style, version, limit, channelEntity, timeBits, row, rows}
-use Rattle.dem.specs.Message.{vector, names, isPoint, isUpdate, kindLayout, layout, updateLayout, soundLayout, clientLayout, temporaryLayout}
-use Rattle.format.proofs.ResultLaws.{clash}
-use Rattle.format.proofs.LayoutLaws.{Allowed, allows→, and-true}
+use Rattle.dem.specs.Message.{Field, byte, chars, entity, version, limit, row, vector, names, isPoint, kindLayout, layout, updateLayout}
+use Rattle.format.proofs.LayoutLaws.{Allowed, allows→}
 use Rattle.dem.proofs.MessageLaws.{kind-update}
+use Rattle.dem.proofs.ShapeLaws.{update-numbered}
 use Rattle.wire.specs.Cursors.{textIn}
 use Rattle.wire.specs.declared.Text.{Text}
 use Rattle.strings.specs.Names.{namesIn}
@@ -35,130 +31,18 @@ use Rattle.message.specs.declared.Message.the-variants as M
 use Rattle.pieces.specs.declared.Piece.{Piece}
 use Rattle.pieces.specs.Bytes.{numberPiece, textPiece, vectorPieces, bytesOf}
 use Rattle.pieces.specs.Texts.{TextsOf}
-use Rattle.pieces.proofs.TextLaws.{lists-print, string-inside, lists-inside}
-
--- ---- how many values a layout allows
-
-record Count (l : Layout) (n : ℕ) : Type 0 where
-  count : (vs : List Value) → Allowed l vs → length vs ≡ n
-
-count-done : Count done 0
-count-done = record { count = go }
-  where
-    go : (vs : List Value) → Allowed done vs → length vs ≡ 0
-    go [] a = refl
-    go (v ∷ vs) a = absurd a
-
-count-field : {w n : ℕ} {rule : ℕ → ℕ} {k : Layout} → Count k n → Count (field w rule (λ v. k)) (suc n)
-count-field {w} {n} {rule} {k} h = record { count = go }
-  where
-    go : (vs : List Value) → Allowed (field w rule (λ v. k)) vs → length vs ≡ suc n
-    go [] a = absurd a
-    go (text t ∷ vs) a = absurd a
-    go (number v ∷ vs) a = ap suc (h .count vs (a .2))
-
-count-split : {w low n : ℕ} {rule : ℕ → ℕ} {k : Layout} → Count k n → Count (split w low rule k) (suc (suc n))
-count-split {w} {low} {n} {rule} {k} h = record { count = go }
-  where
-    go : (vs : List Value) → Allowed (split w low rule k) vs → length vs ≡ suc (suc n)
-    go [] a = absurd a
-    go (text t ∷ vs) a = absurd a
-    go (number l ∷ []) a = absurd a
-    go (number l ∷ text t ∷ vs) a = absurd a
-    go (number l ∷ number v ∷ vs) a = ap (λ (m : ℕ). suc (suc m)) (h .count vs (a .3))
-
-count-string : {n : ℕ} {rule : List ℕ → ℕ} {k : Layout} → Count k n → Count (string rule (λ t. k)) (suc n)
-count-string {n} {rule} {k} h = record { count = go }
-  where
-    go : (vs : List Value) → Allowed (string rule (λ t. k)) vs → length vs ≡ suc n
-    go [] a = absurd a
-    go (number v ∷ vs) a = absurd a
-    go (text t ∷ vs) a = ap suc (h .count vs (a .2))
-
--- A row, with the number of its values.
-counted : List Field → ℕ
-counted [] = 0
-counted (byte ∷ fs) = suc (counted fs)
-counted (short ∷ fs) = suc (counted fs)
-counted (long ∷ fs) = suc (counted fs)
-counted (chars ∷ fs) = suc (counted fs)
-counted (entity ∷ fs) = suc (counted fs)
-counted (player ∷ fs) = suc (counted fs)
-counted (statIndex ∷ fs) = suc (counted fs)
-counted (style ∷ fs) = suc (counted fs)
-counted (version ∷ fs) = suc (counted fs)
-counted (limit ∷ fs) = suc (counted fs)
-counted (channelEntity ∷ fs) = suc (suc (counted fs))
-counted (timeBits ∷ fs) = suc (counted fs)
-
-row-count : (c : Context) (fs : List Field) → Count (row c fs done) (counted fs)
-unfolding counted
-row-count c [] = count-done
-row-count c (byte ∷ fs) = count-field (row-count c fs)
-row-count c (short ∷ fs) = count-field (row-count c fs)
-row-count c (long ∷ fs) = count-field (row-count c fs)
-row-count c (chars ∷ fs) = count-string (row-count c fs)
-row-count c (entity ∷ fs) = count-field (row-count c fs)
-row-count c (player ∷ fs) = count-field (row-count c fs)
-row-count c (statIndex ∷ fs) = count-field (row-count c fs)
-row-count c (style ∷ fs) = count-field (row-count c fs)
-row-count c (version ∷ fs) = count-field (row-count c fs)
-row-count c (limit ∷ fs) = count-field (row-count c fs)
-row-count c (channelEntity ∷ fs) = count-split (row-count c fs)
-row-count c (timeBits ∷ fs) = count-field (row-count c fs)
-
--- Fewer than an update has.
-small : List (List Field) → Bool
-small [] = true
-small (fs ∷ rs) = ltb (counted fs) 13 && small rs
-
-row-small : (rs : List (List Field)) → small rs ≡ true → (n : ℕ) → counted (getD rs n []) < 13
-unfolding small counted
-row-small [] h n = lit< tt
-row-small (fs ∷ rs) h zero = ltb-true (counted fs) 13 (and-true (ltb (counted fs) 13) (small rs) h .0)
-row-small (fs ∷ rs) h (suc n) = row-small rs (and-true (ltb (counted fs) 13) (small rs) h .1) n
-
-rows-small : small rows ≡ true
-unfolding small counted
-rows-small = refl
+use Rattle.strings.proofs.NameLaws.{lists-print}
+use Rattle.pieces.proofs.TextLaws.{string-inside, lists-inside}
 
 -- ---- an update
 
-module _ (x : Context) (u : Update) where
-  -- Its values are those of no other message.
-  neither : (b : Bool) → Allowed (cond b (row x vector done) (row x (entity ∷ vector ++ vector) done)) (tail (tail (updateValues u))) → ⊥
-  neither true a = a .2 .2 .2
-  neither false a = a .2 .2 .2 .2 .2 .2 .2
-
-  other : (n : ℕ) (b s d k i : Bool) → eqb n Kind.serverinfo ≡ i → b ≡ false
-      → Allowed (cond b (updateLayout n) (cond s (soundLayout x) (cond d (clientLayout x) (cond k (temporaryLayout x)
-      (row x (getD rows n []) (cond i (names nameLimit (names nameLimit done)) done)))))) (tail (updateValues u))
-      → ⊥
-  other n true s d k i e f a = clash (cc)
-  other n false true d k i e f a = a .2 .2 .2 .3 .2 .2 .2 .2
-  other n false false true k i e f a = a .2 .2 .2 .2 .2 .2 .2 .2 .2 .2 .2 .2 .2
-  other n false false false true i e f a = neither (isPoint (u .high)) (a .2)
-  other n false false false false true e f a =
-      subst (λ (m : ℕ). Allowed (row x (getD rows m []) (names nameLimit (names nameLimit done))) (tail (updateValues u)))
-      (eqb-true n Kind.serverinfo e) a .2 .2 .2
-  other n false false false false false e f a =
-      omega (arith, row-count x (getD rows n []) .count (tail (updateValues u)) a, row-small rows rows-small n)
-
-  pub update-number : Allowed (layout x) (updateValues u) → isUpdate (u .number) ≡ true
-  unfolding layout kindLayout
-  update-number a = go (isUpdate (u .number)) refl
-    where
-      go : (b : Bool) → isUpdate (u .number) ≡ b → b ≡ true
-      go true e = refl
-      go false e =
-          let n : ℕ = u .number in
-          absurd (other n (isUpdate n) (eqb n Kind.sound) (eqb n Kind.clientdata) (eqb n Kind.temporary) (eqb n Kind.serverinfo) refl e (a .2))
-
-  pub update-print : Allowed (layout x) (updateValues u)
-      → leWrite 1 (u .number) ++ print (updateLayout (u .number)) (tail (updateValues u)) ≡ print (layout x) (updateValues u)
-  unfolding layout print
-  update-print a =
-      sym (ap (λ (l : Layout). leWrite 1 (u .number) ++ print l (tail (updateValues u))) (kind-update x (u .number) (update-number a)))
+pub update-print : (x : Context) (u : Update) → Allowed (layout x) (updateValues u)
+    → leWrite 1 (u .number) ++ print (updateLayout (u .number)) (tail (updateValues u)) ≡ print (layout x) (updateValues u)
+unfolding layout print
+update-print x u a =
+    let n = update-numbered x _ _ _ _ _ _ _ _ _ _ _ _ _ (u .number) a in
+    sym (ap (λ (l : Layout). leWrite 1 (u .number) ++ print l (tail (updateValues u)))
+    (kind-update x (u .number) (le-leb Kind.update (u .number) n)))
 
 -- ---- a temporary entity
 

@@ -1,16 +1,16 @@
 -- Pieces print as a layout does, field by field: `prints-done`, `prints-field` and the others follow its shape.
 -- Assumes nothing.
-use mathlib.Core.Path.{_≡_, refl, sym, ap, ap₂, _∙_}
+use mathlib.Core.Path.{_≡_, refl, sym, ap, ap₂, _∙_, subst}
 use mathlib.Core.List.{List, [], _∷_, _++_}
 use mathlib.Core.Bool.{Bool, cond}
-use Prim.Native.Nat.{ℕ, _+_, _*_, _^_, _/_, _%_, _<_}
+use Prim.Native.Nat.{ℕ, _+_, _*_, _^_, _<_}
 use lib.IntN.{ℤ}
 use lib.Signed.{mag}
 use mir.Syntax.{Width}
 use mir.Val.{toZ, ofZ, hbits, SFits}
-use Rattle.format.specs.Bytes.{leWrite, isSet, bit}
+use Rattle.format.specs.Bytes.{leWrite}
 use Rattle.format.specs.Layout.{Value, number, Layout, done, field, split, print}
-use Rattle.format.proofs.ByteLaws.{bit-div}
+use Rattle.format.specs.Masked.{Slot, Mask, slotLayout}
 use Rattle.wire.proofs.SignedLaws.{same-bits}
 use Rattle.pieces.specs.declared.Piece.{Piece}
 use Rattle.pieces.specs.Bytes.{numberPiece, pieceBytes, bytesOf}
@@ -23,15 +23,10 @@ bits-of {p} {n} w z f e = e ∙ ap (numberPiece n) (same-bits w z (ofZ w z) (rec
 pub handed : {r : ℕ} (w : Width) (z : ℤ) → SFits w z → r ≡ ofZ w (toZ w (ofZ w z)) → r ≡ ofZ w z
 handed w z f e = e ∙ same-bits w z (ofZ w z) f refl
 
--- The bit of a mask, as code takes it by its weight.
-pub bit-taken : (mask weight : ℕ) {taken b : Bool} → taken ≡ isSet (mask / weight % 2) → taken ≡ b → (k : ℕ) → weight ≡ 2 ^ k
-    → bit mask k ≡ b
-bit-taken mask weight e f k q = bit-div mask k ∙ ap (λ (n : ℕ). isSet (mask / n % 2)) (sym q) ∙ sym e ∙ f
-
--- A field that a mask brings.
-pub sent-by : (mask weight w : ℕ) {v : ℕ} {p : Piece} {taken : Bool} (b : Bool) → taken ≡ isSet (mask / weight % 2) → taken ≡ b
-    → p ≡ numberPiece (cond b w 0) v → (k : ℕ) → weight ≡ 2 ^ k → p ≡ numberPiece (cond (bit mask k) w 0) v
-sent-by mask weight w {v} b e f g k q = g ∙ ap (λ (x : Bool). numberPiece (cond x w 0) v) (sym (bit-taken mask weight e f k q))
+-- A field that a mask brings, as code decides it.
+pub sent-by : (w v : ℕ) {p : Piece} {taken bit : Bool} (b : Bool) → taken ≡ bit → taken ≡ b → p ≡ numberPiece (cond b w 0) v
+    → p ≡ numberPiece (cond bit w 0) v
+sent-by w v b e f g = g ∙ ap (λ (x : Bool). numberPiece (cond x w 0) v) (sym f ∙ e)
 
 -- One piece, and those behind it.
 pub both : {p q : Piece} {ps qs : List Piece} → p ≡ q → ps ≡ qs → _≡_ {A = List Piece} (p ∷ ps) (q ∷ qs)
@@ -61,3 +56,8 @@ module _ {t : List ℕ} where
       → bytesOf t (p ∷ ps) ≡ leWrite w v ++ print l vs
   unfolding bytesOf
   prints-behind e f = ap₂ (λ (x y : List ℕ). x ++ y) (ap (pieceBytes t) e) (f .same)
+
+  -- Fields behind masks that say the same.
+  pub prints-slots : (ss : List Slot) {a b : Mask} {ps : List Piece} {vs : List Value} → a ≡ b → Prints t ps (slotLayout ss a done) vs
+      → Prints t ps (slotLayout ss b done) vs
+  prints-slots ss {a} {b} {ps} {vs} e f = subst (λ (mask : Mask). Prints t ps (slotLayout ss mask done) vs) e f

@@ -2,13 +2,13 @@
 -- Assumes nothing.
 use mathlib.Core.Path.{_≡_, refl}
 use mathlib.Core.List.{List, [], _∷_, _++_}
-use mathlib.Core.Bool.{Bool, true, false, cond, _&&_}
-use Prim.Native.Nat.{ℕ, zero, suc, _+_, _*_, _^_, _≤_}
+use mathlib.Core.Bool.{Bool, true, false, cond}
+use Prim.Native.Nat.{ℕ, zero, suc, _+_, _*_, _^_, _≤_, zero-le}
 use native.Mathlib.Nat.{le-trans}
 use native.Mathlib.Omega.{arith}
-use borrow.Author.Tests.{leb-true}
+use borrow.Author.Tests.{leb-true, leb-false}
 use lib.Dec.{leb, eqb, lit≤}
-use lib.ListN.{length, getD, length-append}
+use lib.ListN.{length, getD, length-append, List·getD-eq-default}
 use Rattle.format.specs.Limits.{stringLimit}
 use Rattle.dem.specs.Limits.{nameLimit}
 use Rattle.dem.specs.Kind
@@ -20,7 +20,8 @@ use Rattle.dem.specs.Message.{Field, byte, short, long, chars, entity, player, 
 use Rattle.dem.specs.Message.{row, rows, vector, isEmpty, names, isPoint, isUpdate, soundSlots, soundTail, clientSlots, clientTail, updateSlots}
 use Rattle.dem.specs.Message.{updateMask, highBit, wideBit, updateLayout, kindLayout, layout}
 use Rattle.format.proofs.ByteLaws.{StringBytes, le-length, bit-lt}
-use Rattle.format.proofs.LayoutLaws.{Allowed, allows→, and-true}
+use Rattle.format.proofs.EachLaws.{in-run}
+use Rattle.format.proofs.LayoutLaws.{Allowed, allows→}
 
 record Within (l : Layout) (n : ℕ) : Type 0 where
   within : (vs : List Value) → Allowed l vs → length (print l vs) ≤ n
@@ -95,19 +96,15 @@ row-within : (c : Context) (fs : List Field) {k : Layout} {n : ℕ} → Within k
 row-within c [] h = more (omega arith) h
 row-within c (f ∷ fs) h = more (omega arith) (field-within c f (row-within c fs h))
 
-short-rows : List (List Field) → Bool
-short-rows [] = true
-short-rows (fs ∷ rs) = leb (length fs) 12 && short-rows rs
-
-row-short : (rs : List (List Field)) → short-rows rs ≡ true → (n : ℕ) → length (getD rs n []) ≤ 12
-unfolding short-rows
-row-short [] h n = lit≤ tt
-row-short (fs ∷ rs) h zero = leb-true (length fs) 12 (and-true (leb (length fs) 12) (short-rows rs) h .0)
-row-short (fs ∷ rs) h (suc n) = row-short rs (and-true (leb (length fs) 12) (short-rows rs) h .1) n
-
-rows-short : short-rows rows ≡ true
-unfolding short-rows
-rows-short = refl
+-- One test computed over all rows.
+row-short : (n : ℕ) → length (getD rows n []) ≤ 12
+row-short n = go (leb 35 n) refl
+  where
+    go : (b : Bool) → leb 35 n ≡ b → length (getD rows n []) ≤ 12
+    go true e = rw (List·getD-eq-default rows [] (leb-true 35 n e)) (lit≤ tt)
+    go false e =
+        leb-true (length (getD rows n [])) 12
+        (in-run (λ n. leb (length (getD rows n [])) 12) 0 35 n refl zero-le (leb-false 35 n e))
 
 -- ---- names and masked fields
 
@@ -151,7 +148,7 @@ kind-within x n =
     (either (eqb n Kind.clientdata) (more (omega arith) (within-field (λ m. slots-within clientSlots (bit m) (row-within x clientTail within-done))))
     (either (eqb n Kind.temporary) (more (omega arith) (within-field (λ k. either {n = stringLimit * 7} (isPoint k)
     (more (omega arith) (row-within x vector within-done)) (more (omega arith) (row-within x (entity ∷ vector ++ vector) within-done)))))
-    (more (omega (arith, row-short rows rows-short n)) (row-within x (getD rows n [])
+    (more (omega (arith, row-short n)) (row-within x (getD rows n [])
     (either (eqb n Kind.serverinfo) (names-within nameLimit (names-within nameLimit within-done)) (more (omega arith) within-done)))))))
 
 layout-within : (x : Context) → Within (layout x) (2 ^ 21)

@@ -3,7 +3,7 @@
 ghost use mathlib.Core.Path.{_≡_};
 ghost use mathlib.Core.List.{List, [], _∷_, _++_};
 ghost use mathlib.Core.Bool.{true, cond};
-ghost use Prim.Native.Nat.{ℕ, suc, _+_, _-_, _^_, _≤_, _<_, min};
+ghost use Prim.Native.Nat.{ℕ, suc, _+_, _-_, _*_, _^_, _≤_, _<_, min};
 ghost use lib.ListN.{length, take, drop};
 ghost use lib.Seq.{sets};
 ghost use mir.Val.{ofZ};
@@ -11,11 +11,13 @@ ghost use mir.Syntax.{w8, w16, w32};
 ghost use Rattle.format.specs.Bytes.{leWrite, bit, bitOf};
 ghost use Rattle.format.specs.Layout.{number, print, allows, tail};
 ghost use Rattle.dem.specs.Scene.{Context};
-ghost use Rattle.dem.specs.Message.{layout, updateLayout};
+ghost use Rattle.dem.specs.Kind;
+ghost use Rattle.dem.specs.Message.{layout, updateLayout, wideBit};
 ghost use Rattle.wire.specs.declared.Text.{Text};
-ghost use Rattle.message.specs.Values.{valuesBy, particleValues, temporaryValues, soundValues, clientValues, updateValues};
+ghost use Rattle.message.specs.Values.{valuesBy, temporaryValues, soundValues, clientValues, updateValues};
 ghost use Rattle.pieces.specs.Bytes.{numberPiece, textPiece, vectorPieces, lookPieces, posePieces, listOf, piecesBytes};
 ghost use Rattle.pieces.specs.Texts.{TextsOf};
+use dem::kind;
 use message::Clientdata;
 use message::Entity;
 use message::Look;
@@ -114,36 +116,36 @@ fn from_i32(z: i32) -> Piece
     number(4, unsigned32(z))
 }
 
-// A field that a mask brings where its bit of this weight is set, and else no bytes.
-fn sent(mask: u16, weight: u16, width: usize, value: u32) -> Piece
-    requires { ⌜ 0 < weight ⌝ }
-    ensures { λ r. ⌜ ((k : ℕ) → weight ≡ 2 ^ k → r ≡ numberPiece (cond (bit mask k) width 0) value) ⌝ }
+// A field that a mask brings where its bit k is set, and else no bytes.
+fn sent(mask: u16, k: u16, width: usize, value: u32) -> Piece
+    requires { ⌜ k < 16 ⌝ }
+    ensures { λ r. ⌜ r ≡ numberPiece (cond (bit mask k) width 0) value ⌝ }
 {
-    if wire::has(mask, weight) {
+    if wire::has(mask, k) {
         return number(width, value);
     }
     number(0, value)
 }
 
-fn sent_u8(mask: u16, weight: u16, v: u8) -> Piece
-    requires { ⌜ 0 < weight ⌝ }
-    ensures { λ r. ⌜ ((k : ℕ) → weight ≡ 2 ^ k → r ≡ numberPiece (cond (bit mask k) 1 0) v) ⌝ }
+fn sent_u8(mask: u16, k: u16, v: u8) -> Piece
+    requires { ⌜ k < 16 ⌝ }
+    ensures { λ r. ⌜ r ≡ numberPiece (cond (bit mask k) 1 0) v ⌝ }
 {
-    sent(mask, weight, 1, v as u32)
+    sent(mask, k, 1, v as u32)
 }
 
-fn sent_i8(mask: u16, weight: u16, z: i8) -> Piece
-    requires { ⌜ 0 < weight ⌝ }
-    ensures { λ r. ⌜ ((k : ℕ) → weight ≡ 2 ^ k → r ≡ numberPiece (cond (bit mask k) 1 0) (ofZ w8 z)) ⌝ }
+fn sent_i8(mask: u16, k: u16, z: i8) -> Piece
+    requires { ⌜ k < 16 ⌝ }
+    ensures { λ r. ⌜ r ≡ numberPiece (cond (bit mask k) 1 0) (ofZ w8 z) ⌝ }
 {
-    sent(mask, weight, 1, unsigned8(z) as u32)
+    sent(mask, k, 1, unsigned8(z) as u32)
 }
 
-fn sent_i16(mask: u16, weight: u16, z: i16) -> Piece
-    requires { ⌜ 0 < weight ⌝ }
-    ensures { λ r. ⌜ ((k : ℕ) → weight ≡ 2 ^ k → r ≡ numberPiece (cond (bit mask k) 2 0) (ofZ w16 z)) ⌝ }
+fn sent_i16(mask: u16, k: u16, z: i16) -> Piece
+    requires { ⌜ k < 16 ⌝ }
+    ensures { λ r. ⌜ r ≡ numberPiece (cond (bit mask k) 2 0) (ofZ w16 z) ⌝ }
 {
-    sent(mask, weight, 2, unsigned16(z) as u32)
+    sent(mask, k, 2, unsigned16(z) as u32)
 }
 
 // ---- kinds of messages
@@ -161,13 +163,13 @@ fn numbers(n: u8, w0: usize, v0: u32, w1: usize, v1: u32, w2: usize, v2: u32) ->
     Pieces { items, count: 4 }
 }
 
-fn angles(a: i8, b: i8, c: i8) -> Pieces
-    ensures { λ r. ⌜ listOf r ≡ (numberPiece 1 10 ∷ numberPiece 1 (ofZ w8 a) ∷ numberPiece 1 (ofZ w8 b) ∷ numberPiece 1 (ofZ w8 c) ∷ []) ⌝ }
+fn angles(n: u8, a: i8, b: i8, c: i8) -> Pieces
+    ensures { λ r. ⌜ listOf r ≡ (numberPiece 1 n ∷ numberPiece 1 (ofZ w8 a) ∷ numberPiece 1 (ofZ w8 b) ∷ numberPiece 1 (ofZ w8 c) ∷ []) ⌝ }
 {
     let x = unsigned8(a) as u32;
     let y = unsigned8(b) as u32;
     let z = unsigned8(c) as u32;
-    numbers(10, 1, x, 1, y, 1, z)
+    numbers(n, 1, x, 1, y, 1, z)
 }
 
 // A text and its closing zero, of one byte; serverinfo's lists, which end in zeros of their own, have none.
@@ -228,22 +230,31 @@ fn behind_vector(n: u8, v: Vector, a: u8, b: u8, c: u8, w: usize, d: u32, e: u32
 }
 
 fn particle(p: Particle) -> Pieces
-    ensures { λ r. ⌜ ((x : Context) (t : List ℕ) → piecesBytes t r ≡ print (layout x) (number 18 ∷ particleValues p)) ⌝ }
+    ensures { λ r. ⌜ ((x : Context) (t : List ℕ) (f : Text → List ℕ) → piecesBytes t r ≡ print (layout x) (valuesBy f (Message.Particle p))) ⌝ }
 {
     let v = p.origin;
     let a = unsigned8(p.direction0);
     let b = unsigned8(p.direction1);
     let c = unsigned8(p.direction2);
-    behind_vector(18, v, a, b, c, 1, p.count as u32, p.colour as u32)
+    behind_vector(
+        kind::PARTICLE,
+        v,
+        a,
+        b,
+        c,
+        1,
+        p.count as u32,
+        p.colour as u32,
+    )
 }
 
 // A temporary entity from an entity and a vector to another.
 fn line(k: u8, e: Entity, v: Vector, w: Vector) -> Pieces
-    ensures { λ r. ⌜ listOf r ≡ (numberPiece 1 23 ∷ numberPiece 1 k ∷ numberPiece 2 (e .0) ∷ (vectorPieces v ++ vectorPieces w)) ⌝ }
+    ensures { λ r. ⌜ listOf r ≡ (numberPiece 1 Kind.temporary ∷ numberPiece 1 k ∷ numberPiece 2 (e .0) ∷ (vectorPieces v ++ vectorPieces w)) ⌝ }
 {
     let zero = number(0, 0);
     let mut items = [zero; MOST];
-    items[0] = from_u8(23);
+    items[0] = from_u8(kind::TEMPORARY);
     items[1] = from_u8(k);
     items[2] = number(2, e.0 as u32);
     items[3] = from_i16(v.x);
@@ -256,10 +267,10 @@ fn line(k: u8, e: Entity, v: Vector, w: Vector) -> Pieces
 }
 
 fn temporary(k: Temporary) -> Pieces
-    ensures { λ r. ⌜ ((x : Context) (t : List ℕ) → allows (layout x) (number 23 ∷ temporaryValues k) ≡ true → piecesBytes t r ≡ print (layout x) (number 23 ∷ temporaryValues k)) ⌝ }
+    ensures { λ r. ⌜ ((x : Context) (t : List ℕ) → allows (layout x) (number Kind.temporary ∷ temporaryValues k) ≡ true → piecesBytes t r ≡ print (layout x) (number Kind.temporary ∷ temporaryValues k)) ⌝ }
 {
     match k {
-        Temporary::Point(n, v) => before_vector(23, 1, n as u32, 0, 0, v),
+        Temporary::Point(n, v) => before_vector(kind::TEMPORARY, 1, n as u32, 0, 0, v),
         Temporary::Line(n, e, v, w) => line(n, e, v, w),
     }
 }
@@ -286,13 +297,13 @@ fn placed(n: u8, w: usize, e: u32, l: Look, p: Pose) -> Pieces
 }
 
 fn serverinfo(s: Serverinfo) -> Pieces
-    ensures { λ r. ⌜ listOf r ≡ (numberPiece 1 11 ∷ numberPiece 4 (ofZ w32 (s .protocol)) ∷ numberPiece 1 (s .limit) ∷ numberPiece 1 (s .game) ∷ textPiece (s .map) 1 ∷ textPiece (s .names) 0 ∷ []) ⌝ }
+    ensures { λ r. ⌜ listOf r ≡ (numberPiece 1 Kind.serverinfo ∷ numberPiece 4 (ofZ w32 (s .protocol)) ∷ numberPiece 1 (s .limit) ∷ numberPiece 1 (s .game) ∷ textPiece (s .map) 1 ∷ textPiece (s .names) 0 ∷ []) ⌝ }
 {
     let map = s.map;
     let names = s.names;
     let zero = number(0, 0);
     let mut items = [zero; MOST];
-    items[0] = from_u8(11);
+    items[0] = from_u8(kind::SERVERINFO);
     items[1] = from_i32(s.protocol);
     items[2] = from_u8(s.limit);
     items[3] = from_u8(s.game);
@@ -301,19 +312,26 @@ fn serverinfo(s: Serverinfo) -> Pieces
     Pieces { items, count: 6 }
 }
 
+// A channel and an entity in one number, whose three low bits are the channel's.
+fn source(channel: u8, entity: Entity) -> u32
+    ensures { λ r. ⌜ r ≡ entity .0 * 8 + channel ⌝ }
+{
+    (entity.0 as u32) * 8 + (channel as u32)
+}
+
 fn sound(s: Sound) -> Pieces
-    ensures { λ r. ⌜ ((x : Context) (t : List ℕ) → piecesBytes t r ≡ print (layout x) (number 6 ∷ soundValues s)) ⌝ }
+    ensures { λ r. ⌜ ((x : Context) (t : List ℕ) → piecesBytes t r ≡ print (layout x) (number Kind.sound ∷ soundValues s)) ⌝ }
 {
     let mask = s.mask as u16;
     let e = s.entity;
     let v = s.origin;
     let zero = number(0, 0);
     let mut items = [zero; MOST];
-    items[0] = from_u8(6);
+    items[0] = from_u8(kind::SOUND);
     items[1] = from_u8(s.mask);
-    items[2] = sent_u8(mask, 1, s.volume);
-    items[3] = sent_u8(mask, 2, s.attenuation);
-    items[4] = number(2, (e.0 as u32) * 8 + (s.channel as u32));
+    items[2] = sent_u8(mask, dem::sound::VOLUME, s.volume);
+    items[3] = sent_u8(mask, dem::sound::ATTENUATION, s.attenuation);
+    items[4] = number(2, source(s.channel, e));
     items[5] = from_u8(s.sound);
     items[6] = from_i16(v.x);
     items[7] = from_i16(v.y);
@@ -322,7 +340,7 @@ fn sound(s: Sound) -> Pieces
 }
 
 fn clientdata(c: Clientdata) -> Pieces
-    ensures { λ r. ⌜ ((x : Context) (t : List ℕ) → piecesBytes t r ≡ print (layout x) (number 15 ∷ clientValues c)) ⌝ }
+    ensures { λ r. ⌜ ((x : Context) (t : List ℕ) → piecesBytes t r ≡ print (layout x) (number Kind.clientdata ∷ clientValues c)) ⌝ }
 {
     let mask = c.mask;
     let m = c.motion;
@@ -330,20 +348,20 @@ fn clientdata(c: Clientdata) -> Pieces
     let s = c.supplies;
     let zero = number(0, 0);
     let mut items = [zero; MOST];
-    items[0] = from_u8(15);
+    items[0] = from_u8(kind::CLIENTDATA);
     items[1] = number(2, mask as u32);
-    items[2] = sent_i8(mask, 1, m.view_height);
-    items[3] = sent_i8(mask, 2, m.pitch);
-    items[4] = sent_i8(mask, 4, m.punch0);
-    items[5] = sent_i8(mask, 32, m.velocity0);
-    items[6] = sent_i8(mask, 8, m.punch1);
-    items[7] = sent_i8(mask, 64, m.velocity1);
-    items[8] = sent_i8(mask, 16, m.punch2);
-    items[9] = sent_i8(mask, 128, m.velocity2);
+    items[2] = sent_i8(mask, dem::clientdata::VIEW_HEIGHT, m.view_height);
+    items[3] = sent_i8(mask, dem::clientdata::PITCH, m.pitch);
+    items[4] = sent_i8(mask, dem::clientdata::PUNCH0, m.punch0);
+    items[5] = sent_i8(mask, dem::clientdata::VELOCITY0, m.velocity0);
+    items[6] = sent_i8(mask, dem::clientdata::PUNCH1, m.punch1);
+    items[7] = sent_i8(mask, dem::clientdata::VELOCITY1, m.velocity1);
+    items[8] = sent_i8(mask, dem::clientdata::PUNCH2, m.punch2);
+    items[9] = sent_i8(mask, dem::clientdata::VELOCITY2, m.velocity2);
     items[10] = from_i32(c.items);
-    items[11] = sent_u8(mask, 4096, a.weapon_frame);
-    items[12] = sent_u8(mask, 8192, a.armour);
-    items[13] = sent_u8(mask, 16384, a.weapon_model);
+    items[11] = sent_u8(mask, dem::clientdata::WEAPON_FRAME, a.weapon_frame);
+    items[12] = sent_u8(mask, dem::clientdata::ARMOUR, a.armour);
+    items[13] = sent_u8(mask, dem::clientdata::WEAPON_MODEL, a.weapon_model);
     items[14] = from_i16(s.health);
     items[15] = from_u8(s.ammo);
     items[16] = from_u8(s.count0);
@@ -354,11 +372,11 @@ fn clientdata(c: Clientdata) -> Pieces
     Pieces { items, count: 21 }
 }
 
-// Two bytes for an entity where bit 14 of an update's mask is set, and else one.
-fn entity_width(high: u16) -> usize
-    ensures { λ r. ⌜ r ≡ suc (bitOf (bit high 6)) ⌝ }
+// An entity's bytes: two where an update's mask says so, and else one.
+fn entity_width(mask: u16) -> usize
+    ensures { λ r. ⌜ r ≡ suc (bitOf (bit mask wideBit)) ⌝ }
 {
-    if wire::has(high, 64) {
+    if wire::has(mask, dem::update::WIDE) {
         return 2;
     }
     1
@@ -367,27 +385,26 @@ fn entity_width(high: u16) -> usize
 fn update(u: Update) -> Pieces
     ensures { λ r. ⌜ ((t : List ℕ) → piecesBytes t r ≡ leWrite 1 (u .number) ++ print (updateLayout (u .number)) (tail (updateValues u))) ⌝ }
 {
-    let low = u.number as u16;
-    let high = u.high as u16;
+    let mask = (u.high as u16) * 256 + (u.number as u16);
     let e = u.entity;
     let l = u.look;
     let p = u.pose;
     let zero = number(0, 0);
     let mut items = [zero; MOST];
     items[0] = from_u8(u.number);
-    items[1] = sent_u8(low, 1, u.high);
-    items[2] = number(entity_width(high), e.0 as u32);
-    items[3] = sent_u8(high, 4, l.model);
-    items[4] = sent_u8(low, 64, l.frame);
-    items[5] = sent_u8(high, 8, l.colormap);
-    items[6] = sent_u8(high, 16, l.skin);
-    items[7] = sent_u8(high, 32, u.effects);
-    items[8] = sent_i16(low, 2, p.x);
-    items[9] = sent_i8(high, 1, p.angle0);
-    items[10] = sent_i16(low, 4, p.y);
-    items[11] = sent_i8(low, 16, p.angle1);
-    items[12] = sent_i16(low, 8, p.z);
-    items[13] = sent_i8(high, 2, p.angle2);
+    items[1] = sent_u8(mask, dem::update::HIGH, u.high);
+    items[2] = number(entity_width(mask), e.0 as u32);
+    items[3] = sent_u8(mask, dem::update::MODEL, l.model);
+    items[4] = sent_u8(mask, dem::update::FRAME, l.frame);
+    items[5] = sent_u8(mask, dem::update::COLORMAP, l.colormap);
+    items[6] = sent_u8(mask, dem::update::SKIN, l.skin);
+    items[7] = sent_u8(mask, dem::update::EFFECTS, u.effects);
+    items[8] = sent_i16(mask, dem::update::X, p.x);
+    items[9] = sent_i8(mask, dem::update::ANGLE0, p.angle0);
+    items[10] = sent_i16(mask, dem::update::Y, p.y);
+    items[11] = sent_i8(mask, dem::update::ANGLE1, p.angle1);
+    items[12] = sent_i16(mask, dem::update::Z, p.z);
+    items[13] = sent_i8(mask, dem::update::ANGLE2, p.angle2);
     Pieces { items, count: 14 }
 }
 
@@ -397,39 +414,39 @@ pub fn pieces_of(m: Message) -> Pieces
     ensures { λ r. ⌜ ((x : Context) (t : List ℕ) (f : Text → List ℕ) → TextsOf t f → allows (layout x) (valuesBy f m) ≡ true → piecesBytes t r ≡ print (layout x) (valuesBy f m)) ⌝ }
 {
     match m {
-        Message::Nop => numbers(1, 0, 0, 0, 0, 0, 0),
-        Message::Disconnect => numbers(2, 0, 0, 0, 0, 0, 0),
-        Message::Stat(i, v) => numbers(3, 1, i as u32, 4, unsigned32(v), 0, 0),
-        Message::Version(v) => numbers(4, 4, unsigned32(v), 0, 0, 0, 0),
-        Message::View(e) => numbers(5, 2, e.0 as u32, 0, 0, 0, 0),
+        Message::Nop => numbers(kind::NOP, 0, 0, 0, 0, 0, 0),
+        Message::Disconnect => numbers(kind::DISCONNECT, 0, 0, 0, 0, 0, 0),
+        Message::Stat(i, v) => numbers(kind::STAT, 1, i as u32, 4, unsigned32(v), 0, 0),
+        Message::Version(v) => numbers(kind::VERSION, 4, unsigned32(v), 0, 0, 0, 0),
+        Message::View(e) => numbers(kind::VIEW, 2, e.0 as u32, 0, 0, 0, 0),
         Message::Sound(s) => sound(s),
-        Message::Time(v) => numbers(7, 4, v, 0, 0, 0, 0),
-        Message::Print(t) => with_string(8, 0, 0, t),
-        Message::Stufftext(t) => with_string(9, 0, 0, t),
-        Message::SetAngles(a, b, c) => angles(a, b, c),
+        Message::Time(v) => numbers(kind::TIME, 4, v, 0, 0, 0, 0),
+        Message::Print(t) => with_string(kind::PRINT, 0, 0, t),
+        Message::Stufftext(t) => with_string(kind::STUFFTEXT, 0, 0, t),
+        Message::SetAngles(a, b, c) => angles(kind::SET_ANGLES, a, b, c),
         Message::Serverinfo(s) => serverinfo(s),
-        Message::Style(i, t) => with_string(12, 1, i as u32, t),
-        Message::Name(p, t) => with_string(13, 1, p.0 as u32, t),
-        Message::Frags(p, v) => numbers(14, 1, p.0 as u32, 2, unsigned16(v) as u32, 0, 0),
+        Message::Style(i, t) => with_string(kind::STYLE, 1, i as u32, t),
+        Message::Name(p, t) => with_string(kind::NAME, 1, p.0 as u32, t),
+        Message::Frags(p, v) => numbers(kind::FRAGS, 1, p.0 as u32, 2, unsigned16(v) as u32, 0, 0),
         Message::Clientdata(c) => clientdata(c),
-        Message::Stopsound(c, e) => numbers(16, 2, (e.0 as u32) * 8 + (c as u32), 0, 0, 0, 0),
-        Message::Colours(p, v) => numbers(17, 1, p.0 as u32, 1, v as u32, 0, 0),
+        Message::Stopsound(c, e) => numbers(kind::STOPSOUND, 2, source(c, e), 0, 0, 0, 0),
+        Message::Colours(p, v) => numbers(kind::COLOURS, 1, p.0 as u32, 1, v as u32, 0, 0),
         Message::Particle(p) => particle(p),
-        Message::Damage(a, b, v) => before_vector(19, 1, a as u32, 1, b as u32, v),
-        Message::Static(l, p) => placed(20, 0, 0, l, p),
-        Message::Baseline(e, l, p) => placed(22, 2, e.0 as u32, l, p),
+        Message::Damage(a, b, v) => before_vector(kind::DAMAGE, 1, a as u32, 1, b as u32, v),
+        Message::Static(l, p) => placed(kind::STATIC, 0, 0, l, p),
+        Message::Baseline(e, l, p) => placed(kind::BASELINE, 2, e.0 as u32, l, p),
         Message::Temporary(k) => temporary(k),
-        Message::Pause(v) => numbers(24, 1, v as u32, 0, 0, 0, 0),
-        Message::Signon(v) => numbers(25, 1, v as u32, 0, 0, 0, 0),
-        Message::Centerprint(t) => with_string(26, 0, 0, t),
-        Message::Killed => numbers(27, 0, 0, 0, 0, 0, 0),
-        Message::Secret => numbers(28, 0, 0, 0, 0, 0, 0),
-        Message::StaticSound(v, a, b, c) => behind_vector(29, v, a, b, c, 0, 0, 0),
-        Message::Intermission => numbers(30, 0, 0, 0, 0, 0, 0),
-        Message::Finale(t) => with_string(31, 0, 0, t),
-        Message::Track(a, b) => numbers(32, 1, a as u32, 1, b as u32, 0, 0),
-        Message::Sellscreen => numbers(33, 0, 0, 0, 0, 0, 0),
-        Message::Cutscene(t) => with_string(34, 0, 0, t),
+        Message::Pause(v) => numbers(kind::PAUSE, 1, v as u32, 0, 0, 0, 0),
+        Message::Signon(v) => numbers(kind::SIGNON, 1, v as u32, 0, 0, 0, 0),
+        Message::Centerprint(t) => with_string(kind::CENTERPRINT, 0, 0, t),
+        Message::Killed => numbers(kind::KILLED, 0, 0, 0, 0, 0, 0),
+        Message::Secret => numbers(kind::SECRET, 0, 0, 0, 0, 0, 0),
+        Message::StaticSound(v, a, b, c) => behind_vector(kind::STATIC_SOUND, v, a, b, c, 0, 0, 0),
+        Message::Intermission => numbers(kind::INTERMISSION, 0, 0, 0, 0, 0, 0),
+        Message::Finale(t) => with_string(kind::FINALE, 0, 0, t),
+        Message::Track(a, b) => numbers(kind::TRACK, 1, a as u32, 1, b as u32, 0, 0),
+        Message::Sellscreen => numbers(kind::SELLSCREEN, 0, 0, 0, 0, 0, 0),
+        Message::Cutscene(t) => with_string(kind::CUTSCENE, 0, 0, t),
         Message::Update(u) => update(u),
     }
 }

@@ -25,10 +25,10 @@ clear : (s : List ℕ) (c d : Cursor) (l : Layout) (us : List Value) → gotten 
 unfolding gotten parseAt
 clear s c d l us p e =
     go (eqb (c .refusal) 0) refl
-    (sym (ap (λ (b : Bool). cond b (found us (drop (d .at) s)) (refused (d .refusal) [])) (eq-eqb (d .refusal) 0 e)) ∙ p)
+    (sym (ap (λ (b : Bool). cond b (found us (drop (d .at) s)) (refused (d .refusal) (drop (d .at) s))) (eq-eqb (d .refusal) 0 e)) ∙ p)
   where
     go : (b : Bool) → eqb (c .refusal) 0 ≡ b
-        → found us (drop (d .at) s) ≡ cond b (refusedAt [] (parse l (drop (c .at) s))) (refused (c .refusal) []) → c .refusal ≡ 0
+        → found us (drop (d .at) s) ≡ cond b (parse l (drop (c .at) s)) (refused (c .refusal) (drop (c .at) s)) → c .refusal ≡ 0
     go true q f = eqb-true (c .refusal) 0 q
     go false q f = clash (cc)
 

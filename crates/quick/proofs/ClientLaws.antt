@@ -22,7 +22,7 @@ use Rattle.wire.specs.Cursors.{gotten, parseAt}
 use Rattle.wire.specs.declared.Cursor.{Cursor}
 use Rattle.wire.proofs.Sticky.{here}
 use Rattle.parts.specs.Kinds.{kindAt}
-use Rattle.masked.proofs.MaskLaws.{bit-test}
+use Rattle.format.proofs.BitLaws.{bit-test}
 use Rattle.quick.specs.Spread.{passed, needlessIn, clientFields, clientIn, clientAt}
 use Rattle.quick.proofs.Fields.{sent}
 use Rattle.quick.proofs.NormalLaws.{client-kept}
@@ -39,8 +39,8 @@ pub gotten-map : {A B : Type 0} (s : List ℕ) (f : A → B) (a : A) (c : Cursor
 unfolding gotten
 gotten-map s f a c = go (eqb (c .refusal) 0)
   where
-    go : (b : Bool) → cond b (found (f a) (drop (c .at) s)) (refused (c .refusal) [])
-        ≡ mapResult f (cond b (found a (drop (c .at) s)) (refused (c .refusal) []))
+    go : (b : Bool) → cond b (found (f a) (drop (c .at) s)) (refused (c .refusal) (drop (c .at) s))
+        ≡ mapResult f (cond b (found a (drop (c .at) s)) (refused (c .refusal) (drop (c .at) s)))
     go true = refl
     go false = refl
 
@@ -59,7 +59,7 @@ module _ (s : List ℕ) (at mask : ℕ) (whole : at + 2 ≤ length s) (read : le
       → gotten s (number Kind.clientdata ∷ number mask ∷ fields) (here (passed clientFields (bit mask) (at + 2))) ≡ kindAt s (here at) x Kind.clientdata
   unfolding gotten kindAt parseAt kindLayout
   client-parsed x =
-      sym (ap (λ (r : Result (List Value)). put (number Kind.clientdata) (refusedAt [] r))
+      sym (ap (put (number Kind.clientdata))
       (parse-good 2 clientRule (λ m. slotLayout clientFields (bit m) done) at s mask whole read good ∙ ap (put (number mask)) fields-parsed))
 
   pub client-filled : fillClient (number mask ∷ fields) ≡ number Kind.clientdata ∷ clientIn s mask (at + 2)

@@ -22,7 +22,8 @@ use Rattle.wire.proofs.SignedLaws.{same-bits}
 use Rattle.message.specs.declared.Look.{Look}
 use Rattle.message.specs.declared.Pose.{Pose}
 use Rattle.message.specs.Values.{poseValues}
-use Rattle.masked.proofs.MaskLaws.{bit-test, update-mask}
+use Rattle.format.proofs.BitLaws.{bit-test}
+use Rattle.dem.proofs.UpdateLaws.{update-mask}
 use Rattle.quick.specs.Spread.{fieldOr, behind, needlessOr, spread, passed, needlessIn, lookSlots, lookOf, poseSlots}
 use Rattle.quick.specs.Heads.{highAt, maskAt, entityWidth, headAt, needlessHead}
 use Rattle.quick.specs.declared.ByteOr.{ByteOr}

@@ -19,7 +19,7 @@ use Rattle.dem.specs.Message.{clientSlots, clientMask, sendClient}
 use Rattle.format.proofs.ResultLaws.{clash}
 use Rattle.format.proofs.ByteLaws.{set-bit}
 use Rattle.format.proofs.MaskedLaws.{Agree, Chosen}
-use Rattle.masked.proofs.MaskLaws.{update-mask}
+use Rattle.dem.proofs.UpdateLaws.{update-mask}
 use Rattle.quick.specs.Spread.{fieldOr, behind, needlessOr, spread, needlessIn, filledAt, suppliesSlots, clientFields, clientIn}
 use Rattle.quick.specs.Heads.{needlessHead}
 use Rattle.quick.proofs.Fields.{set-one, bit-set, bit-clear, sent}

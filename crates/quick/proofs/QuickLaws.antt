@@ -19,7 +19,7 @@ use Rattle.dem.specs.Message.{sendUpdate}
 use Rattle.format.proofs.ByteLaws.{bit-div}
 use Rattle.format.proofs.AtLaws.{parse-done, parse-good, one-at}
 use Rattle.dem.proofs.UpdateLaws.{entity-good}
-use Rattle.masked.proofs.MaskLaws.{update-mask}
+use Rattle.dem.proofs.UpdateLaws.{update-mask}
 use Rattle.scene.specs.Views.{baselineNumbers, recordValues}
 use Rattle.scene.specs.declared.Baseline.{Baseline}
 use Rattle.quick.specs.Spread.{fieldOr, behind, spread, passed, needlessIn, filledAt}

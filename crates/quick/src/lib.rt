@@ -19,6 +19,9 @@ ghost use Rattle.message.specs.Values.{poseValues, motionValues, armsValues, su
 ghost use Rattle.scene.specs.Views.{baselineNumbers, recordValues, clientValues};
 ghost use Rattle.quick.specs.Spread.{fieldOr, behind, needlessOr, spread, passed, needlessIn, lookSlots, lookOf, poseSlots, filledAt, suppliesSlots, clientFields, clientIn, clientAt};
 ghost use Rattle.quick.specs.Heads.{headAt};
+use dem::clientdata;
+use dem::limit::DEFAULT_VIEW_HEIGHT;
+use dem::update;
 use message::Arms;
 use message::Entity;
 use message::Look;
@@ -209,8 +212,8 @@ fn look_or(d: &[u8], at: usize, mask: u16, o: Look) -> LookOr
     ensures flag { λ r. ⌜ r .needless ≡ needlessIn (now (d .entry)) (lookSlots o) (bit mask) at false ⌝ }
     ensures near { λ r. ⌜ r .next ≤ at + 5 ⌝ }
 {
-    if (mask >> 10) % 16 == 0 {
-        let f = byte_or(d, at, mask, 6, o.frame, false);
+    if (mask >> update::MODEL) % 16 == 0 {
+        let f = byte_or(d, at, mask, update::FRAME, o.frame, false);
         return LookOr {
             model: o.model,
             frame: f.value,
@@ -221,11 +224,11 @@ fn look_or(d: &[u8], at: usize, mask: u16, o: Look) -> LookOr
             needless: f.needless,
         };
     }
-    let m = byte_or(d, at, mask, 10, o.model, false);
-    let f = byte_or(d, m.next, mask, 6, o.frame, m.needless);
-    let c = byte_or(d, f.next, mask, 11, o.colormap, f.needless);
-    let s = byte_or(d, c.next, mask, 12, o.skin, c.needless);
-    let e = byte_or(d, s.next, mask, 13, 0, s.needless);
+    let m = byte_or(d, at, mask, update::MODEL, o.model, false);
+    let f = byte_or(d, m.next, mask, update::FRAME, o.frame, m.needless);
+    let c = byte_or(d, f.next, mask, update::COLORMAP, o.colormap, f.needless);
+    let s = byte_or(d, c.next, mask, update::SKIN, o.skin, c.needless);
+    let e = byte_or(d, s.next, mask, update::EFFECTS, 0, s.needless);
     LookOr {
         model: m.value,
         frame: f.value,
@@ -245,8 +248,8 @@ fn look_chosen(d: &[u8], at: usize, mask: u16, o: Look) -> LookOr
     ensures flag { λ r. ⌜ r .needless ≡ needlessIn (now (d .entry)) (lookSlots o) (bit mask) at false ⌝ }
     ensures near { λ r. ⌜ r .next ≤ at + 5 ⌝ }
 {
-    if (mask >> 10) % 16 == 0 {
-        let f = byte_chosen(d, at, mask, 6, o.frame, false);
+    if (mask >> update::MODEL) % 16 == 0 {
+        let f = byte_chosen(d, at, mask, update::FRAME, o.frame, false);
         return LookOr {
             model: o.model,
             frame: f.value,
@@ -257,11 +260,11 @@ fn look_chosen(d: &[u8], at: usize, mask: u16, o: Look) -> LookOr
             needless: f.needless,
         };
     }
-    let m = byte_chosen(d, at, mask, 10, o.model, false);
-    let f = byte_chosen(d, m.next, mask, 6, o.frame, m.needless);
-    let c = byte_chosen(d, f.next, mask, 11, o.colormap, f.needless);
-    let s = byte_chosen(d, c.next, mask, 12, o.skin, c.needless);
-    let e = byte_chosen(d, s.next, mask, 13, 0, s.needless);
+    let m = byte_chosen(d, at, mask, update::MODEL, o.model, false);
+    let f = byte_chosen(d, m.next, mask, update::FRAME, o.frame, m.needless);
+    let c = byte_chosen(d, f.next, mask, update::COLORMAP, o.colormap, f.needless);
+    let s = byte_chosen(d, c.next, mask, update::SKIN, o.skin, c.needless);
+    let e = byte_chosen(d, s.next, mask, update::EFFECTS, 0, s.needless);
     LookOr {
         model: m.value,
         frame: f.value,
@@ -279,12 +282,12 @@ fn pose_or(d: &[u8], at: usize, mask: u16, other: Pose, needless: bool) -> PoseO
     ensures place { λ r. ⌜ r .next ≡ passed (poseSlots other) (bit mask) at ⌝ }
     ensures flag { λ r. ⌜ r .needless ≡ needlessIn (now (d .entry)) (poseSlots other) (bit mask) at needless ⌝ }
 {
-    let x = short_or(d, at, mask, 1, other.x, needless);
-    let a = char_or(d, x.next, mask, 8, other.angle0, x.needless);
-    let y = short_or(d, a.next, mask, 2, other.y, a.needless);
-    let b = char_or(d, y.next, mask, 4, other.angle1, y.needless);
-    let z = short_or(d, b.next, mask, 3, other.z, b.needless);
-    let c = char_or(d, z.next, mask, 9, other.angle2, z.needless);
+    let x = short_or(d, at, mask, update::X, other.x, needless);
+    let a = char_or(d, x.next, mask, update::ANGLE0, other.angle0, x.needless);
+    let y = short_or(d, a.next, mask, update::Y, other.y, a.needless);
+    let b = char_or(d, y.next, mask, update::ANGLE1, other.angle1, y.needless);
+    let z = short_or(d, b.next, mask, update::Z, other.z, b.needless);
+    let c = char_or(d, z.next, mask, update::ANGLE2, other.angle2, z.needless);
     let pose = Pose {
         x: x.value,
         angle0: a.value,
@@ -329,27 +332,27 @@ fn needed_pose(d: &[u8], at: usize, mask: u16, o: Pose, needless: bool) -> PoseO
     if needless {
         return left_pose();
     }
-    let x = short_or(d, at, mask, 1, o.x, needless);
+    let x = short_or(d, at, mask, update::X, o.x, needless);
     if x.needless {
         return left_pose();
     }
-    let a = char_or(d, x.next, mask, 8, o.angle0, x.needless);
+    let a = char_or(d, x.next, mask, update::ANGLE0, o.angle0, x.needless);
     if a.needless {
         return left_pose();
     }
-    let y = short_or(d, a.next, mask, 2, o.y, a.needless);
+    let y = short_or(d, a.next, mask, update::Y, o.y, a.needless);
     if y.needless {
         return left_pose();
     }
-    let b = char_or(d, y.next, mask, 4, o.angle1, y.needless);
+    let b = char_or(d, y.next, mask, update::ANGLE1, o.angle1, y.needless);
     if b.needless {
         return left_pose();
     }
-    let z = short_or(d, b.next, mask, 3, o.z, b.needless);
+    let z = short_or(d, b.next, mask, update::Z, o.z, b.needless);
     if z.needless {
         return left_pose();
     }
-    let c = char_or(d, z.next, mask, 9, o.angle2, z.needless);
+    let c = char_or(d, z.next, mask, update::ANGLE2, o.angle2, z.needless);
     let pose = Pose {
         x: x.value,
         angle0: a.value,
@@ -382,11 +385,11 @@ pub fn update_head(d: &[u8], at: usize, low: u8) -> UpdateHead
     ensures { λ r. ⌜ r ≡ headAt (now (d .entry)) at low ⌝ }
     ensures near { λ r. ⌜ r .next ≤ at + 3 ⌝ }
 {
-    let h = byte_or(d, at, wide(low), 0, 0, false);
+    let h = byte_or(d, at, wide(low), update::HIGH, 0, false);
     let mask = wide(h.value) * 256 + wide(low);
     let q = h.next;
     let lo = d[q];
-    let hi = byte_or(d, q + 1, mask, 14, 0, h.needless);
+    let hi = byte_or(d, q + 1, mask, update::WIDE, 0, h.needless);
     let number = wide(hi.value) * 256 + wide(lo);
     let entity = Entity(number);
     UpdateHead {
@@ -409,7 +412,7 @@ fn record_of(mask: u16, o: Look, l: LookOr, pose: Pose) -> Record
     ensures { λ r. ⌜ recordValues r ≡ number (bitOf (bit mask recordBit)) ∷ (lookOf l ++ poseValues pose) ⌝ }
 {
     let mut record = Record {
-        bit5: (mask >> 5) % 2 != 0,
+        bit5: (mask >> update::RECORD) % 2 != 0,
         look: o,
         effects: l.effects,
         pose,
@@ -479,7 +482,7 @@ struct ArmsOr {
     needless: bool,
 }
 
-// View height 22, other fields 0.
+// View height its default, other fields 0.
 fn motion_or(d: &[u8], at: usize, mask: u16, needless: bool) -> MotionOr
     requires { ⌜ at + 8 ≤ length (now d) ⌝ }
     ensures { λ r. ⌜ motionValues (r .motion) ≡ spread (now (d .entry)) (take 8 clientSlots) (bit mask) at ⌝ }
@@ -487,14 +490,21 @@ fn motion_or(d: &[u8], at: usize, mask: u16, needless: bool) -> MotionOr
     ensures flag { λ r. ⌜ r .needless ≡ needlessIn (now (d .entry)) (take 8 clientSlots) (bit mask) at needless ⌝ }
     ensures near { λ r. ⌜ r .next ≤ at + 8 ⌝ }
 {
-    let h = char_chosen(d, at, mask, 0, 22, needless);
-    let p = char_chosen(d, h.next, mask, 1, 0, h.needless);
-    let p0 = char_or(d, p.next, mask, 2, 0, p.needless);
-    let v0 = char_chosen(d, p0.next, mask, 5, 0, p0.needless);
-    let p1 = char_or(d, v0.next, mask, 3, 0, v0.needless);
-    let v1 = char_chosen(d, p1.next, mask, 6, 0, p1.needless);
-    let p2 = char_or(d, v1.next, mask, 4, 0, v1.needless);
-    let v2 = char_chosen(d, p2.next, mask, 7, 0, p2.needless);
+    let h = char_chosen(
+        d,
+        at,
+        mask,
+        clientdata::VIEW_HEIGHT,
+        DEFAULT_VIEW_HEIGHT,
+        needless,
+    );
+    let p = char_chosen(d, h.next, mask, clientdata::PITCH, 0, h.needless);
+    let p0 = char_or(d, p.next, mask, clientdata::PUNCH0, 0, p.needless);
+    let v0 = char_chosen(d, p0.next, mask, clientdata::VELOCITY0, 0, p0.needless);
+    let p1 = char_or(d, v0.next, mask, clientdata::PUNCH1, 0, v0.needless);
+    let v1 = char_chosen(d, p1.next, mask, clientdata::VELOCITY1, 0, p1.needless);
+    let p2 = char_or(d, v1.next, mask, clientdata::PUNCH2, 0, v1.needless);
+    let v2 = char_chosen(d, p2.next, mask, clientdata::VELOCITY2, 0, p2.needless);
     let motion = Motion {
         view_height: h.value,
         pitch: p.value,
@@ -519,9 +529,9 @@ fn arms_or(d: &[u8], at: usize, mask: u16, needless: bool) -> ArmsOr
     ensures flag { λ r. ⌜ r .needless ≡ needlessIn (now (d .entry)) (drop 9 clientSlots) (bit mask) at needless ⌝ }
     ensures near { λ r. ⌜ r .next ≤ at + 3 ⌝ }
 {
-    let f = byte_chosen(d, at, mask, 12, 0, needless);
-    let a = byte_chosen(d, f.next, mask, 13, 0, f.needless);
-    let m = byte_chosen(d, a.next, mask, 14, 0, a.needless);
+    let f = byte_chosen(d, at, mask, clientdata::WEAPON_FRAME, 0, needless);
+    let a = byte_chosen(d, f.next, mask, clientdata::ARMOUR, 0, f.needless);
+    let m = byte_chosen(d, a.next, mask, clientdata::WEAPON_MODEL, 0, a.needless);
     let arms = Arms {
         weapon_frame: f.value,
         armour: a.value,
@@ -581,8 +591,8 @@ fn client_fields(d: &[u8], at: usize, mask: u16, needless: bool) -> ClientOr
     let motion = m.motion;
     let arms = a.arms;
     let client = Client {
-        ground: (mask >> 10) % 2 != 0,
-        water: (mask >> 11) % 2 != 0,
+        ground: (mask >> clientdata::GROUND) % 2 != 0,
+        water: (mask >> clientdata::WATER) % 2 != 0,
         motion,
         items,
         arms,
@@ -613,9 +623,9 @@ pub fn client_at(s: &[u8], at: usize) -> ClientAt
     if at <= s.len() {
         if CLIENT_SIZE <= s.len() - at {
             let mask = word_in(s, at);
-            if (mask >> 8) % 2 == 0 {
-                if mask < 32768 {
-                    let f = client_fields(s, at + 2, mask, (mask >> 9) % 2 == 0);
+            if (mask >> clientdata::RESERVED_LOW) % 2 == 0 {
+                if mask < clientdata::MASK_BOUND {
+                    let f = client_fields(s, at + 2, mask, (mask >> clientdata::ITEMS) % 2 == 0);
                     let client = f.client;
                     let cursor = Cursor {
                         at: f.next,

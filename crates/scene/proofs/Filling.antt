@@ -1,21 +1,18 @@
--- A field that code picks by a mask's weight is the one that the definitions pick by its bit: unsigned, or signed of any width. And which
--- messages are filled in at all.
+-- A field that code picks, as a value: unsigned, or signed of any width. And which messages are filled in at all.
 -- Assumes nothing.
 use mathlib.Core.Path.{_≡_, refl, ap, sym, _∙_}
 use mathlib.Core.List.{List, [], _∷_}
 use mathlib.Core.Bool.{Bool, true, false, cond}
-use Prim.Native.Nat.{ℕ, _/_, _%_, _^_, _<_}
+use Prim.Native.Nat.{ℕ, _^_, _<_}
 use lib.IntN.{ℤ}
 use lib.Signed.{mag}
 use denote.Enum.Declared.{tagOf}
 use types.Run.{OneOf, miss}
 use mir.Syntax.{Width}
 use mir.Val.{ofZ, toZ, hbits}
-use Rattle.format.specs.Bytes.{isSet, bit}
 use Rattle.format.specs.Layout.{number, tail}
 use Rattle.dem.specs.Scene.{Scene, baselineAt}
 use Rattle.dem.specs.Message.{fill, fillUpdate, isUpdate}
-use Rattle.format.proofs.ByteLaws.{bit-div}
 use Rattle.dem.proofs.MessageLaws.{fill-update}
 use Rattle.wire.specs.declared.Text.{Text}
 use Rattle.wire.proofs.SignedLaws.{same-bits}
@@ -30,26 +27,21 @@ use Rattle.scene.specs.Views.{plainValues}
 pub flag-picks : {A : Type 0} (f g : Bool) (a b : A) → f ≡ g → (r : A) → r ≡ cond f a b → r ≡ cond g a b
 flag-picks f g a b e r h = h ∙ ap (λ (s : Bool). cond s a b) e
 
--- The weight of bit k is 2 ^ k.
-pub flagged : {f : Bool} (m k : ℕ) → f ≡ isSet (m / 2 ^ k % 2) → f ≡ bit m k
-flagged m k e = e ∙ sym (bit-div m k)
-
-pub picked : (m k r x y : ℕ) → r ≡ cond (isSet (m / 2 ^ k % 2)) x y → number r ≡ cond (bit m k) (number x) (number y)
-picked m k r x y e = ap number (flag-picks _ _ x y (sym (bit-div m k)) r e) ∙ through (bit m k)
+pub picked : (b : Bool) (r x y : ℕ) → r ≡ cond b x y → number r ≡ cond b (number x) (number y)
+picked b r x y e = ap number e ∙ through b
   where
     through : (s : Bool) → number (cond s x y) ≡ cond s (number x) (number y)
     through true = refl
     through false = refl
 
-module _ (w : Width) (m k : ℕ) (r x y : ℤ) (fr : mag r < 2 ^ hbits w) (fx : mag x < 2 ^ hbits w) (fy : mag y < 2 ^ hbits w) where
+module _ (w : Width) (b : Bool) (r x y : ℤ) (fr : mag r < 2 ^ hbits w) (fx : mag x < 2 ^ hbits w) (fy : mag y < 2 ^ hbits w) where
   through : (s : Bool) → ofZ w (cond s (toZ w (ofZ w x)) (toZ w (ofZ w y))) ≡ cond s (ofZ w x) (ofZ w y)
   through true = same-bits w x _ (record { sfits = fx }) refl
   through false = same-bits w y _ (record { sfits = fy }) refl
 
-  pub signed-picked : r ≡ cond (isSet (m / 2 ^ k % 2)) (toZ w (ofZ w x)) (toZ w (ofZ w y))
-      → number (ofZ w (toZ w (ofZ w r))) ≡ cond (bit m k) (number (ofZ w x)) (number (ofZ w y))
-  signed-picked e =
-      picked m k _ _ _ (same-bits w r _ (record { sfits = fr }) (ap (ofZ w) e ∙ through (isSet (m / 2 ^ k % 2))))
+  pub signed-picked : r ≡ cond b (toZ w (ofZ w x)) (toZ w (ofZ w y))
+      → number (ofZ w (toZ w (ofZ w r))) ≡ cond b (number (ofZ w x)) (number (ofZ w y))
+  signed-picked e = picked b _ _ _ (same-bits w r _ (record { sfits = fr }) (ap (ofZ w) e ∙ through b))
 
 -- ---- any message
 

@@ -2,21 +2,35 @@
 ghost use mathlib.Core.Path.{_≡_};
 ghost use mathlib.Core.List.{List, [], _∷_, map};
 ghost use mathlib.Core.Bool.{Bool, false, cond};
-ghost use Prim.Native.Nat.{ℕ, _<_, _/_, _%_};
+ghost use Prim.Native.Nat.{ℕ, _<_};
 ghost use lib.ListN.{take, drop, replicate};
 ghost use mir.Syntax.{w16, w32};
 ghost use mir.Val.{ofZ};
 ghost use Rattle.dem.specs.Kind;
-ghost use Rattle.dem.specs.Limits.{entityCount};
-ghost use Rattle.format.specs.Bytes.{isSet, bit};
+ghost use Rattle.dem.specs.Limits.{entityCount, statCount};
+ghost use Rattle.format.specs.Bytes.{bit};
 ghost use Rattle.format.specs.Layout.{Value, number, numbers, tail};
 ghost use Rattle.format.specs.Masked.{fillSlots};
-ghost use Rattle.dem.specs.Scene.{Scene as Described, zeroClientdata, cleared, inRange};
-ghost use Rattle.dem.specs.Message.{apply, raise, clientStats, fill, updateSlots, updateMask, clientSlots, fillUpdate, fillClient, fillSound};
+ghost use Rattle.dem.specs.Scene.{Scene as Described, zeroClientdata, cleared, contextOf, inRange};
+ghost use Rattle.parts.specs.Kinds.{contextOf as numbersOf};
+ghost use Rattle.dem.specs.Message.{apply, raise, clientStats, fill, updateSlots, clientSlots, fillUpdate, fillClient, fillSound};
 ghost use Rattle.wire.specs.declared.Text.{Text};
 ghost use Rattle.message.specs.declared.Message.{Message};
-ghost use Rattle.message.specs.Values.{valuesBy, lookValues, poseValues, motionValues, armsValues, soundValues, updateValues, clientValues as sentClientValues};
+ghost use Rattle.message.specs.Values.{valuesBy, valuesOf, lookValues, poseValues, motionValues, armsValues, soundValues, updateValues, clientValues as sentClientValues};
 ghost use Rattle.scene.specs.Views.{Numbered, BaselineOf, filledBy, sceneOf, sceneWith, withTables, withStats, baselineNumbers, recordValues, clientValues, filledSoundValues};
+use dem::clientdata;
+use dem::limit::DEFAULT_ATTENUATION;
+use dem::limit::DEFAULT_VIEW_HEIGHT;
+use dem::limit::DEFAULT_VOLUME;
+use dem::limit::ENTITY_BOUND;
+use dem::limit::ENTITY_COUNT;
+use dem::limit::HIGHEST_LIMIT;
+use dem::limit::PLAYER_COUNT;
+use dem::limit::STAT_COUNT;
+use dem::limit::STATIC_LIMIT;
+use dem::sound;
+use dem::update;
+use format::limit::TIME_BOUND;
 use message::Arms;
 use message::Clientdata;
 use message::Entity;
@@ -30,6 +44,7 @@ use message::Supplies;
 use message::Time;
 use message::Update;
 use message::Vector;
+use parts::Context;
 
 pub struct Baseline {
     pub look: Look,
@@ -78,7 +93,7 @@ pub struct PlayerLine {
 
 // Every part of the scene but the tables of entities: small enough to go by value through functions.
 pub struct Rest {
-    pub stats: [i32; 32],
+    pub stats: [i32; STAT_COUNT],
     pub client: Client,
     pub view: Entity,
     pub pause: u8,
@@ -86,13 +101,13 @@ pub struct Rest {
     pub limit: u8,
     pub time: Time,
     pub ended: bool,
-    pub players: [PlayerLine; 16],
+    pub players: [PlayerLine; PLAYER_COUNT],
 }
 
 pub struct Scene {
-    pub baselines: [Baseline; 449],
-    pub records: [Record; 449],
-    pub present: [bool; 449],
+    pub baselines: [Baseline; ENTITY_COUNT],
+    pub records: [Record; ENTITY_COUNT],
+    pub present: [bool; ENTITY_COUNT],
     pub rest: Rest,
 }
 
@@ -121,9 +136,9 @@ pub fn cleared_scene(limit: u8) -> Scene
         effects: 0,
         pose,
     };
-    let baselines = [baseline; 449];
-    let records = [nothing; 449];
-    let present = [false; 449];
+    let baselines = [baseline; ENTITY_COUNT];
+    let records = [nothing; ENTITY_COUNT];
+    let present = [false; ENTITY_COUNT];
     let rest = cleared_rest(limit);
     Scene {
         baselines,
@@ -173,14 +188,14 @@ fn cleared_client() -> Client
 fn cleared_rest(limit: u8) -> Rest
     ensures { λ r. ⌜ ((b e : List (List ℕ)) (p : List Bool) → sceneWith b e p r ≡ withTables b e p (cleared limit)) ⌝ }
 {
-    let stats = [0i32; 32];
+    let stats = [0i32; STAT_COUNT];
     let client = cleared_client();
     let view = Entity(0);
     let line = PlayerLine {
         frags: 0,
         colours: 0,
     };
-    let players = [line; 16];
+    let players = [line; PLAYER_COUNT];
     Rest {
         stats,
         client,
@@ -199,49 +214,61 @@ pub fn in_range(x: Rest) -> bool
     ensures { λ r. ⌜ ((b e : List (List ℕ)) (p : List Bool) → r ≡ inRange (sceneWith b e p x)) ⌝ }
 {
     let view = x.view;
-    if 448 < view.0 {
+    if ENTITY_BOUND <= view.0 {
         return false;
     }
-    if 128 < x.statics {
+    if STATIC_LIMIT < x.statics {
         return false;
     }
-    if 16 < x.limit {
+    if HIGHEST_LIMIT < x.limit {
         return false;
     }
     let time = x.time;
     match time {
         Time::None => true,
-        Time::At(bits) => bits < 2139095040,
+        Time::At(bits) => bits < TIME_BOUND,
     }
 }
 
-// ---- filling in: a field as sent where the mask's bit of this weight is set, or else its default
-
-fn pick(mask: u16, weight: u16, sent: u8, other: u8) -> u8
-    requires { ⌜ 0 < weight ⌝ }
-    ensures { λ r. ⌜ r ≡ cond (isSet (mask / weight % 2)) sent other ⌝ }
+// The numbers of a scene that the layouts of messages depend on.
+pub fn context(x: Rest) -> Context
+    ensures { λ r. ⌜ ((b e : List (List ℕ)) (p : List Bool) → numbersOf r ≡ contextOf (sceneWith b e p x)) ⌝ }
 {
-    if wire::has(mask, weight) {
+    let time = x.time;
+    Context {
+        limit: x.limit,
+        statics: x.statics,
+        time,
+    }
+}
+
+// ---- filling in: a field as sent where its bit of the mask is set, or else its default
+
+fn pick(mask: u16, k: u16, sent: u8, other: u8) -> u8
+    requires { ⌜ k < 16 ⌝ }
+    ensures { λ r. ⌜ r ≡ cond (bit mask k) sent other ⌝ }
+{
+    if wire::has(mask, k) {
         return sent;
     }
     other
 }
 
-fn pick_char(mask: u16, weight: u16, sent: i8, other: i8) -> i8
-    requires { ⌜ 0 < weight ⌝ }
-    ensures { λ r. ⌜ r ≡ cond (isSet (mask / weight % 2)) sent other ⌝ }
+fn pick_char(mask: u16, k: u16, sent: i8, other: i8) -> i8
+    requires { ⌜ k < 16 ⌝ }
+    ensures { λ r. ⌜ r ≡ cond (bit mask k) sent other ⌝ }
 {
-    if wire::has(mask, weight) {
+    if wire::has(mask, k) {
         return sent;
     }
     other
 }
 
-fn pick_short(mask: u16, weight: u16, sent: i16, other: i16) -> i16
-    requires { ⌜ 0 < weight ⌝ }
-    ensures { λ r. ⌜ r ≡ cond (isSet (mask / weight % 2)) sent other ⌝ }
+fn pick_short(mask: u16, k: u16, sent: i16, other: i16) -> i16
+    requires { ⌜ k < 16 ⌝ }
+    ensures { λ r. ⌜ r ≡ cond (bit mask k) sent other ⌝ }
 {
-    if wire::has(mask, weight) {
+    if wire::has(mask, k) {
         return sent;
     }
     other
@@ -253,14 +280,14 @@ fn widened(x: u8) -> u16
     x as u16
 }
 
-fn fill_look(low: u16, high: u16, sent: Look, b: Baseline) -> Look
-    ensures { λ r. ⌜ lookValues r ≡ fillSlots (take 4 (updateSlots (baselineNumbers b))) (updateMask low high) (lookValues sent) ⌝ }
+fn fill_look(mask: u16, sent: Look, b: Baseline) -> Look
+    ensures { λ r. ⌜ lookValues r ≡ fillSlots (take 4 (updateSlots (baselineNumbers b))) (bit mask) (lookValues sent) ⌝ }
 {
     let other = b.look;
-    let model = pick(high, 4, sent.model, other.model);
-    let frame = pick(low, 64, sent.frame, other.frame);
-    let colormap = pick(high, 8, sent.colormap, other.colormap);
-    let skin = pick(high, 16, sent.skin, other.skin);
+    let model = pick(mask, update::MODEL, sent.model, other.model);
+    let frame = pick(mask, update::FRAME, sent.frame, other.frame);
+    let colormap = pick(mask, update::COLORMAP, sent.colormap, other.colormap);
+    let skin = pick(mask, update::SKIN, sent.skin, other.skin);
     Look {
         model,
         frame,
@@ -269,16 +296,16 @@ fn fill_look(low: u16, high: u16, sent: Look, b: Baseline) -> Look
     }
 }
 
-fn fill_pose(low: u16, high: u16, sent: Pose, b: Baseline) -> Pose
-    ensures { λ r. ⌜ poseValues r ≡ fillSlots (drop 5 (updateSlots (baselineNumbers b))) (updateMask low high) (poseValues sent) ⌝ }
+fn fill_pose(mask: u16, sent: Pose, b: Baseline) -> Pose
+    ensures { λ r. ⌜ poseValues r ≡ fillSlots (drop 5 (updateSlots (baselineNumbers b))) (bit mask) (poseValues sent) ⌝ }
 {
     let other = b.pose;
-    let x = pick_short(low, 2, sent.x, other.x);
-    let angle0 = pick_char(high, 1, sent.angle0, other.angle0);
-    let y = pick_short(low, 4, sent.y, other.y);
-    let angle1 = pick_char(low, 16, sent.angle1, other.angle1);
-    let z = pick_short(low, 8, sent.z, other.z);
-    let angle2 = pick_char(high, 2, sent.angle2, other.angle2);
+    let x = pick_short(mask, update::X, sent.x, other.x);
+    let angle0 = pick_char(mask, update::ANGLE0, sent.angle0, other.angle0);
+    let y = pick_short(mask, update::Y, sent.y, other.y);
+    let angle1 = pick_char(mask, update::ANGLE1, sent.angle1, other.angle1);
+    let z = pick_short(mask, update::Z, sent.z, other.z);
+    let angle2 = pick_char(mask, update::ANGLE2, sent.angle2, other.angle2);
     Pose {
         x,
         angle0,
@@ -293,12 +320,11 @@ fn fill_pose(low: u16, high: u16, sent: Pose, b: Baseline) -> Pose
 pub fn fill_update(u: Update, b: Baseline) -> Record
     ensures { λ r. ⌜ number Kind.update ∷ number (u .entity .0) ∷ recordValues r ≡ fillUpdate (baselineNumbers b) (u .number) (tail (updateValues u)) ⌝ }
 {
-    let low = widened(u.number);
-    let high = widened(u.high);
-    let bit5 = wire::has(low, 32);
-    let look = fill_look(low, high, u.look, b);
-    let effects = pick(high, 32, u.effects, 0);
-    let pose = fill_pose(low, high, u.pose, b);
+    let mask = widened(u.high) * 256 + widened(u.number);
+    let bit5 = wire::has(mask, update::RECORD);
+    let look = fill_look(mask, u.look, b);
+    let effects = pick(mask, update::EFFECTS, u.effects, 0);
+    let pose = fill_pose(mask, u.pose, b);
     Record {
         bit5,
         look,
@@ -310,14 +336,19 @@ pub fn fill_update(u: Update, b: Baseline) -> Record
 fn fill_motion(mask: u16, sent: Motion) -> Motion
     ensures { λ r. ⌜ motionValues r ≡ fillSlots (take 8 clientSlots) (bit mask) (motionValues sent) ⌝ }
 {
-    let view_height = pick_char(mask, 1, sent.view_height, 22);
-    let pitch = pick_char(mask, 2, sent.pitch, 0);
-    let punch0 = pick_char(mask, 4, sent.punch0, 0);
-    let velocity0 = pick_char(mask, 32, sent.velocity0, 0);
-    let punch1 = pick_char(mask, 8, sent.punch1, 0);
-    let velocity1 = pick_char(mask, 64, sent.velocity1, 0);
-    let punch2 = pick_char(mask, 16, sent.punch2, 0);
-    let velocity2 = pick_char(mask, 128, sent.velocity2, 0);
+    let view_height = pick_char(
+        mask,
+        clientdata::VIEW_HEIGHT,
+        sent.view_height,
+        DEFAULT_VIEW_HEIGHT,
+    );
+    let pitch = pick_char(mask, clientdata::PITCH, sent.pitch, 0);
+    let punch0 = pick_char(mask, clientdata::PUNCH0, sent.punch0, 0);
+    let velocity0 = pick_char(mask, clientdata::VELOCITY0, sent.velocity0, 0);
+    let punch1 = pick_char(mask, clientdata::PUNCH1, sent.punch1, 0);
+    let velocity1 = pick_char(mask, clientdata::VELOCITY1, sent.velocity1, 0);
+    let punch2 = pick_char(mask, clientdata::PUNCH2, sent.punch2, 0);
+    let velocity2 = pick_char(mask, clientdata::VELOCITY2, sent.velocity2, 0);
     Motion {
         view_height,
         pitch,
@@ -333,9 +364,9 @@ fn fill_motion(mask: u16, sent: Motion) -> Motion
 fn fill_arms(mask: u16, sent: Arms) -> Arms
     ensures { λ r. ⌜ armsValues r ≡ fillSlots (drop 9 clientSlots) (bit mask) (armsValues sent) ⌝ }
 {
-    let weapon_frame = pick(mask, 4096, sent.weapon_frame, 0);
-    let armour = pick(mask, 8192, sent.armour, 0);
-    let weapon_model = pick(mask, 16384, sent.weapon_model, 0);
+    let weapon_frame = pick(mask, clientdata::WEAPON_FRAME, sent.weapon_frame, 0);
+    let armour = pick(mask, clientdata::ARMOUR, sent.armour, 0);
+    let weapon_model = pick(mask, clientdata::WEAPON_MODEL, sent.weapon_model, 0);
     Arms {
         weapon_frame,
         armour,
@@ -343,13 +374,13 @@ fn fill_arms(mask: u16, sent: Arms) -> Arms
     }
 }
 
-// View height 22, other fields 0, items always as sent.
+// View height its default, other fields 0, items always as sent.
 pub fn fill_client(c: Clientdata) -> Client
     ensures { λ r. ⌜ number Kind.clientdata ∷ clientValues r ≡ fillClient (sentClientValues c) ⌝ }
 {
     let mask = c.mask;
-    let ground = wire::has(mask, 1024);
-    let water = wire::has(mask, 2048);
+    let ground = wire::has(mask, clientdata::GROUND);
+    let water = wire::has(mask, clientdata::WATER);
     let motion = fill_motion(mask, c.motion);
     let arms = fill_arms(mask, c.arms);
     let supplies = c.supplies;
@@ -363,13 +394,13 @@ pub fn fill_client(c: Clientdata) -> Client
     }
 }
 
-// Volume 255, attenuation 64.
+// Volume and attenuation their defaults.
 pub fn fill_sound(s: Sound) -> FilledSound
     ensures { λ r. ⌜ number Kind.sound ∷ filledSoundValues r ≡ fillSound (soundValues s) ⌝ }
 {
     let mask = widened(s.mask);
-    let volume = pick(mask, 1, s.volume, 255);
-    let attenuation = pick(mask, 2, s.attenuation, 64);
+    let volume = pick(mask, sound::VOLUME, s.volume, DEFAULT_VOLUME);
+    let attenuation = pick(mask, sound::ATTENUATION, s.attenuation, DEFAULT_ATTENUATION);
     let entity = s.entity;
     let origin = s.origin;
     FilledSound {
@@ -405,7 +436,7 @@ fn with_stat(x: Rest, i: u8, v: i32) -> Rest
 {
     let mut y = x;
     let at = i as usize;
-    if at < 32 {
+    if at < STAT_COUNT {
         y.stats[at] = v;
     }
     y
@@ -413,7 +444,7 @@ fn with_stat(x: Rest, i: u8, v: i32) -> Rest
 
 // One more, from the highest to the lowest.
 fn raised(x: Rest, i: usize) -> Rest
-    requires { ⌜ i < 32 ⌝ }
+    requires { ⌜ i < statCount ⌝ }
     ensures { λ r. ⌜ ((b e : List (List ℕ)) (p : List Bool) → sceneWith b e p r ≡ withStats (raise (map (ofZ w32) (x .stats)) i) (sceneWith b e p x)) ⌝ }
 {
     let mut y = x;
@@ -431,7 +462,7 @@ fn with_frags(x: Rest, p: Player, v: i16) -> Rest
 {
     let mut y = x;
     let at = p.0 as usize;
-    if at < 16 {
+    if at < PLAYER_COUNT {
         let line = x.players[at];
         let changed = PlayerLine {
             frags: v,
@@ -447,7 +478,7 @@ fn with_colours(x: Rest, p: Player, v: u8) -> Rest
 {
     let mut y = x;
     let at = p.0 as usize;
-    if at < 16 {
+    if at < PLAYER_COUNT {
         let line = x.players[at];
         let changed = PlayerLine {
             frags: line.frags,
@@ -459,7 +490,7 @@ fn with_colours(x: Rest, p: Player, v: u8) -> Rest
 }
 
 // Stats 0, health, and 2 to 10: weapon model, ammo, armour, weapon frame, four counts, weapon.
-fn client_stats(stats: [i32; 32], c: Client) -> [i32; 32]
+fn client_stats(stats: [i32; STAT_COUNT], c: Client) -> [i32; STAT_COUNT]
     ensures { λ r. ⌜ map (ofZ w32) r ≡ clientStats (map (ofZ w32) stats) (numbers (clientValues c)) ⌝ }
 {
     let arms = c.arms;
@@ -510,10 +541,10 @@ pub fn with_time(x: Rest, bits: u32) -> Rest
     }
 }
 
-// After any message. An update and a baseline change the tables only.
-pub fn apply_rest(x: Rest, m: Message) -> Rest
+// After any message, whose strings are places in a text. An update and a baseline change the tables only.
+pub fn apply_rest(x: Rest, m: Message, text: &[u8]) -> Rest
     requires { ⌜ x .statics < 255 ⌝ }
-    ensures { λ r. ⌜ ((b e : List (List ℕ)) (p : List Bool) (t : Text → List ℕ) → Numbered m → sceneWith [] [] [] r ≡ withTables [] [] [] (apply (sceneWith b e p x) (fill (sceneWith b e p x) (valuesBy t m)))) ⌝ }
+    ensures { λ r. ⌜ ((b e : List (List ℕ)) (p : List Bool) → Numbered m → sceneWith [] [] [] r ≡ withTables [] [] [] (apply (sceneWith b e p x) (fill (sceneWith b e p x) (valuesOf (now (text .entry)) m)))) ⌝ }
 {
     let mut y = x;
     match m {

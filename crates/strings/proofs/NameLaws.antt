@@ -1,12 +1,11 @@
 -- The strings in the bytes that a layout of strings alone prints to are its values: each name is read up to its zero, and then the next.
 -- Assumes nothing.
-use mathlib.Core.Path.{_≡_, refl, sym, ap, _∙_}
+use mathlib.Core.Path.{_≡_, refl, sym, ap, _∙_, subst}
 use mathlib.Core.List.{List, [], _∷_, _++_, append-assoc, append-nil}
 use mathlib.Core.Bool.{Bool, true, false, cond}
 use Prim.Native.Nat.{ℕ, zero, suc, _+_}
-use native.Mathlib.Omega.{arith}
+use borrow.Author.Tests.{eqb-true}
 use lib.Dec.{eqb}
-use lib.ListN.{length, length-append}
 use Rattle.format.specs.Limits.{stringLimit}
 use Rattle.format.specs.Refusal.{wrongNumber}
 use Rattle.format.specs.Bytes.{unless, free, writeString}
@@ -57,7 +56,7 @@ module _ (P : Layout → Type 0) (none : P done) (one : (rule : List ℕ → ℕ
 pub lists-strings : (m : ℕ) (vs : List Value) → Allowed (names m (names m done)) vs → namesIn [] (print (names m (names m done)) vs) ≡ vs
 lists-strings m = lists-all Strings done-strings string-strings m
 
--- ---- how many bytes such strings have
+-- ---- such strings and their bytes
 
 -- Strings alone.
 abbrev pub Texts : List Value → Type 0
@@ -66,23 +65,24 @@ Texts (number n ∷ vs) = ⊥
 Texts (text t ∷ vs) = Texts vs
 
 -- The bytes of strings, with their zeros.
-abbrev pub namesLength : List Value → ℕ
-namesLength [] = 0
-namesLength (number n ∷ vs) = namesLength vs
-namesLength (text t ∷ vs) = length t + 1 + namesLength vs
+abbrev pub joined : List Value → List ℕ
+joined [] = []
+joined (number n ∷ vs) = joined vs
+joined (text t ∷ vs) = writeString t ++ joined vs
 
-pub names-length : (name bs : List ℕ) → Texts (namesIn name bs) → namesLength (namesIn name bs) ≡ length name + length bs
-unfolding namesIn
-names-length [] [] h = refl
-names-length (c ∷ name) [] h = absurd h
-names-length name (b ∷ bs) h = go (eqb b 0) h (names-length [] bs) (names-length (name ++ (b ∷ [])) bs)
+abbrev Joined : List ℕ → List ℕ → Type 0
+Joined name bs = Texts (namesIn name bs) → joined (namesIn name bs) ≡ name ++ bs
+
+pub names-joined : (name bs : List ℕ) → Joined name bs
+unfolding namesIn writeString
+names-joined [] [] h = refl
+names-joined (c ∷ name) [] h = absurd h
+names-joined name (b ∷ bs) h = go (eqb b 0) refl h (names-joined [] bs) (names-joined (name ++ (b ∷ [])) bs)
   where
-    go : (z : Bool) → Texts (nameStep z b name (namesIn [] bs) (namesIn (name ++ (b ∷ [])) bs))
-        → (Texts (namesIn [] bs) → namesLength (namesIn [] bs) ≡ 0 + length bs)
-        → (Texts (namesIn (name ++ (b ∷ [])) bs) → namesLength (namesIn (name ++ (b ∷ [])) bs) ≡ length (name ++ (b ∷ [])) + length bs)
-        → namesLength (nameStep z b name (namesIn [] bs) (namesIn (name ++ (b ∷ [])) bs)) ≡ length name + suc (length bs)
-    go true h first more = omega (arith, first h)
-    go false h first more = omega (arith, more h, length-append name (b ∷ []))
+    go : (z : Bool) → eqb b 0 ≡ z → Texts (nameStep z b name (namesIn [] bs) (namesIn (name ++ (b ∷ [])) bs)) → Joined [] bs
+        → Joined (name ++ (b ∷ [])) bs → joined (nameStep z b name (namesIn [] bs) (namesIn (name ++ (b ∷ [])) bs)) ≡ name ++ (b ∷ bs)
+    go true e h first more = rw (first h, eqb-true b 0 e, append-assoc)
+    go false e h first more = more h ∙ append-assoc name (b ∷ []) bs
 
 -- Layouts of strings alone allow no number.
 abbrev OnlyTexts : Layout → Type 0
@@ -99,3 +99,16 @@ string-texts rule k h (text t ∷ vs) a = h t vs (a .2)
 
 pub lists-texts : (m : ℕ) (vs : List Value) → Allowed (names m (names m done)) vs → Texts vs
 lists-texts m = lists-all OnlyTexts done-texts string-texts m
+
+-- The strings in some bytes, where they are two lists, print to those bytes: both are the strings joined.
+pub lists-print : (m : ℕ) (bs : List ℕ) → Allowed (names m (names m done)) (namesIn [] bs) → print (names m (names m done)) (namesIn [] bs) ≡ bs
+lists-print m bs a =
+    let q = lists-strings m (namesIn [] bs) a in
+    let t = lists-texts m (namesIn [] bs) a in
+    sym (names-joined [] (print (names m (names m done)) (namesIn [] bs)) (subst Texts (sym q) t)) ∙ ap joined q ∙ names-joined [] bs t
+
+-- One empty name is a list, and not two.
+pub no-lists : (m : ℕ) → Allowed (names m (names m done)) (namesIn [] (0 ∷ [])) → ⊥
+unfolding namesIn
+no-lists zero a = a .2
+no-lists (suc m) a = a .2

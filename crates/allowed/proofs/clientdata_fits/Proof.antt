@@ -1,34 +1,22 @@
 -- `allowed::clientdata_fits` meets its contract: no reserved bit is set, and the fields are what the mask says.
 -- Assumes nothing.
-use mathlib.Core.Path.{refl, sym, ap₂, _∙_}
+use mathlib.Core.Path.{sym, ap₂, _∙_}
 use mathlib.Core.Bool.{Bool, not, _||_, or-false}
 use Rattle.format.specs.Bytes.{bit}
 use Rattle.allowed.specs.Tests.{clientTest}
-use Rattle.allowed.proofs.MaskTests.{both, flag}
+use Rattle.allowed.proofs.MaskTests.{both}
 use borrow.Author.Needs.{needs}
 use Rattle.allowed.proofs.clientdata_fits.Statement.{statement}
 use Rattle.allowed.proofs.clientdata_fits.Tie as tie
-
-has-requires : tie.Need-has-requires
-has-requires c κs = search needs
-
-has-requires-2 : tie.Need-has-requires-2
-has-requires-2 c κs = search needs
-
-motion-fits-requires : tie.Need-motion-fits-requires
-motion-fits-requires c κs = search needs
-
-arms-fit-requires : tie.Need-arms-fit-requires
-arms-fit-requires c κs = search needs
 
 returns : tie.Need-returns
 unfolding clientTest
 returns c =
     let m = c .before .before .before .before .before .before .args .c .mask in
-    let clear = ap₂ (λ (a b : Bool). not (a || b)) (flag m 8 m refl (c .before .before .before .has .ensures))
-    (flag m 15 m refl (c .before .before .has2 .ensures) ∙ sym (or-false (bit m 15))) in
+    let clear = ap₂ (λ (a b : Bool). not (a || b)) (c .before .before .before .has .ensures)
+    (c .before .before .has2 .ensures ∙ sym (or-false (bit m 15))) in
     both (both clear (c .before .motion-fits .ensures)) (c .arms-fit .ensures)
 
 pub clientdata-fits-spec : {M : Type 1} → statement M
 clientdata-fits-spec =
-    tie.close (tie.spec has-requires has-requires-2 motion-fits-requires arms-fit-requires returns)
+    tie.close (tie.spec (λ c κs. search needs) (λ c κs. search needs) (λ c κs. search needs) (λ c κs. search needs) returns)

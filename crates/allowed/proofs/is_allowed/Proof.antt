@@ -11,6 +11,7 @@ use denote.Enum.Declared.{tagOf}
 use denote.Enum.Laws.{owed}
 use types.Run.{OneOf, miss}
 use Rattle.format.specs.Layout.{allows}
+use Rattle.dem.specs.Limits.{entityCount, styleCount}
 use Rattle.dem.specs.Message.{layout}
 use Rattle.message.specs.Values.{valuesBy}
 use Rattle.message.specs.declared.Entity.{Entity}
@@ -78,99 +79,6 @@ untested t x M.Sellscreen h = refl
 untested t x (M.Cutscene a) h = absurd (miss free 32 tt h)
 untested t x (M.Update a) h = absurd (miss free 33 tt h)
 
-enum-known-m : tie.Need-enum-known-m
-enum-known-m c = search needs
-
-enum-known-m-2 : tie.Need-enum-known-m-2
-enum-known-m-2 c = search needs
-
-enum-known-m-3 : tie.Need-enum-known-m-3
-enum-known-m-3 c = search needs
-
-enum-known-m-4 : tie.Need-enum-known-m-4
-enum-known-m-4 c = search needs
-
-enum-known-m-5 : tie.Need-enum-known-m-5
-enum-known-m-5 c = search needs
-
-sound-fits-requires : tie.Need-sound-fits-requires
-sound-fits-requires c κs = search needs
-
-enum-known-m-6 : tie.Need-enum-known-m-6
-enum-known-m-6 c = search needs
-
-time-fits-requires : tie.Need-time-fits-requires
-time-fits-requires c κs = search needs
-
-enum-known-m-7 : tie.Need-enum-known-m-7
-enum-known-m-7 c = search needs
-
-enum-known-m-8 : tie.Need-enum-known-m-8
-enum-known-m-8 c = search needs
-
-enum-known-m-9 : tie.Need-enum-known-m-9
-enum-known-m-9 c = search needs
-
-enum-known-m-10 : tie.Need-enum-known-m-10
-enum-known-m-10 c = search needs
-
-enum-known-m-11 : tie.Need-enum-known-m-11
-enum-known-m-11 c = search needs
-
-enum-known-m-12 : tie.Need-enum-known-m-12
-enum-known-m-12 c = search needs
-
-serverinfo-fits-requires : tie.Need-serverinfo-fits-requires
-serverinfo-fits-requires c κs = search needs
-
-enum-known-m-13 : tie.Need-enum-known-m-13
-enum-known-m-13 c = search needs
-
-text-is-string-requires : tie.Need-text-is-string-requires
-text-is-string-requires c κs = search needs
-
-enum-known-m-14 : tie.Need-enum-known-m-14
-enum-known-m-14 c = search needs
-
-text-is-string-requires-2 : tie.Need-text-is-string-requires-2
-text-is-string-requires-2 c κs = search needs
-
-enum-known-m-15 : tie.Need-enum-known-m-15
-enum-known-m-15 c = search needs
-
-enum-known-m-16 : tie.Need-enum-known-m-16
-enum-known-m-16 c = search needs
-
-enum-known-m-17 : tie.Need-enum-known-m-17
-enum-known-m-17 c = search needs
-
-clientdata-fits-requires : tie.Need-clientdata-fits-requires
-clientdata-fits-requires c κs = search needs
-
-enum-known-m-18 : tie.Need-enum-known-m-18
-enum-known-m-18 c = search needs
-
-source-fits-requires : tie.Need-source-fits-requires
-source-fits-requires c κs = search needs
-
-enum-told : tie.Need-enum-told
-enum-told c = search needs
-
-enum-known-m-19 : tie.Need-enum-known-m-19
-enum-known-m-19 c = search needs
-
-temporary-fits-requires : tie.Need-temporary-fits-requires
-temporary-fits-requires c κs = search needs
-
-enum-known-m-20 : tie.Need-enum-known-m-20
-enum-known-m-20 c = search needs
-
-update-fits-requires : tie.Need-update-fits-requires
-update-fits-requires c κs = search needs
-
-text-is-string-requires-3 : tie.Need-text-is-string-requires-3
-text-is-string-requires-3 c κs = search needs
-
 returns : tie.Need-returns
 unfolding messageTest
 returns c = answered (c .before .before .before .before) (M.Stat _ _) _ (c .before .m .given .1) refl
@@ -195,7 +103,7 @@ returns-6 : tie.Need-returns-6
 unfolding messageTest
 returns-6 c =
     let m = c .before .before .m13 .given in
-    answered (c .before .before .before .before .before) (M.Style _ _) _ (m .1) (also (ltb (m .0 .0) 64) (c .text-is-string .ensures))
+    answered (c .before .before .before .before .before) (M.Style _ _) _ (m .1) (also (ltb (m .0 .0) styleCount) (c .text-is-string .ensures))
 
 returns-7 : tie.Need-returns-7
 unfolding messageTest
@@ -255,7 +163,7 @@ returns-16 : tie.Need-returns-16
 unfolding messageTest
 returns-16 c =
     let s = c .before .before .before in
-    let test : Entity → Bool = λ e. ltb (e .0) 449 in
+    let test : Entity → Bool = λ e. ltb (e .0) entityCount in
     ⊎-elim (λ w. answered s (M.View _) _ (w .1 .given .1) (ap test (w .3))) (λ w. answered s (M.Baseline _ _ _) _ (w .1 .given .1) (ap test (w .3)))
     (c .before .match .came)
 
@@ -263,37 +171,37 @@ pub is-allowed-spec : {M : Type 1} → statement M
 is-allowed-spec =
     tie.close
     (tie.spec
-    enum-known-m
-    enum-known-m-2
-    enum-known-m-3
-    enum-known-m-4
-    enum-known-m-5
-    sound-fits-requires
-    enum-known-m-6
-    time-fits-requires
-    enum-known-m-7
-    enum-known-m-8
-    enum-known-m-9
-    enum-known-m-10
-    enum-known-m-11
-    enum-known-m-12
-    serverinfo-fits-requires
-    enum-known-m-13
-    text-is-string-requires
-    enum-known-m-14
-    text-is-string-requires-2
-    enum-known-m-15
-    enum-known-m-16
-    enum-known-m-17
-    clientdata-fits-requires
-    enum-known-m-18
-    source-fits-requires
-    enum-told
-    enum-known-m-19
-    temporary-fits-requires
-    enum-known-m-20
-    update-fits-requires
-    text-is-string-requires-3
+    (λ c. search needs)
+    (λ c. search needs)
+    (λ c. search needs)
+    (λ c. search needs)
+    (λ c. search needs)
+    (λ c κs. search needs)
+    (λ c. search needs)
+    (λ c κs. search needs)
+    (λ c. search needs)
+    (λ c. search needs)
+    (λ c. search needs)
+    (λ c. search needs)
+    (λ c. search needs)
+    (λ c. search needs)
+    (λ c κs. search needs)
+    (λ c. search needs)
+    (λ c κs. search needs)
+    (λ c. search needs)
+    (λ c κs. search needs)
+    (λ c. search needs)
+    (λ c. search needs)
+    (λ c. search needs)
+    (λ c κs. search needs)
+    (λ c. search needs)
+    (λ c κs. search needs)
+    (λ c. search needs)
+    (λ c. search needs)
+    (λ c κs. search needs)
+    (λ c. search needs)
+    (λ c κs. search needs)
+    (λ c κs. search needs)
     returns
     returns-2
     returns-3

@@ -15,22 +15,13 @@ use Rattle.allowed.proofs.names_are_lists.Tie as tie
 returns : tie.Need-returns
 returns c = let a = c .before .before .args in lists-outside nameLimit (a .text .now) (a .p) (omega arith)
 
-sub-if2 : tie.Need-sub-if2
-sub-if2 c = search needs
-
 returns-2 : tie.Need-returns-2
 returns-2 c = let a = c .before .before .before .args in lists-outside nameLimit (a .text .now) (a .p) (omega arith)
-
-add-end : tie.Need-add-end
-add-end c = search needs
 
 slice-aggregate-read-names : tie.Need-slice-aggregate-read-names
 slice-aggregate-read-names c =
     let a = c .before .before .before .before .args in
     sym (length-take-le (a .p .start + a .p .len) (a .text .now) (omega arith))
-
-read-names-requires : tie.Need-read-names-requires
-read-names-requires c κs = search needs
 
 returns-3 : tie.Need-returns-3
 returns-3 c =
@@ -53,10 +44,10 @@ names-are-lists-spec =
     tie.close
     (tie.spec
     returns
-    sub-if2
+    (λ c. search needs)
     returns-2
-    add-end
+    (λ c. search needs)
     slice-aggregate-read-names
-    read-names-requires
+    (λ c κs. search needs)
     returns-3
     returns-4)

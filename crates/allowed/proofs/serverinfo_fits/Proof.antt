@@ -4,25 +4,20 @@ use mathlib.Core.Bool.{_&&_}
 use lib.Dec.{eqb, leb}
 use mir.Val.{ofZ}
 use mir.Syntax.{w32}
+use Rattle.dem.specs.Limits.{playerCount, protocol}
 use Rattle.allowed.specs.Tests.{serverinfoTest, listsTest}
 use Rattle.allowed.proofs.MaskTests.{both, also}
 use borrow.Author.Needs.{needs}
 use Rattle.allowed.proofs.serverinfo_fits.Statement.{statement}
 use Rattle.allowed.proofs.serverinfo_fits.Tie as tie
 
-text-is-string-requires : tie.Need-text-is-string-requires
-text-is-string-requires c κs = search needs
-
-names-are-lists-requires : tie.Need-names-are-lists-requires
-names-are-lists-requires c κs = search needs
-
 returns : tie.Need-returns
 unfolding serverinfoTest listsTest
 returns c =
     let s = c .before .before .before .before .before .before .before .args .s in
-    both (also (eqb (ofZ w32 (s .protocol)) 15 && (leb 1 (s .limit) && leb (s .limit) 16)) (c .before .text-is-string .ensures))
+    both (also (eqb (ofZ w32 (s .protocol)) protocol && (leb 1 (s .limit) && leb (s .limit) playerCount)) (c .before .text-is-string .ensures))
     (c .names-are-lists .ensures)
 
 pub serverinfo-fits-spec : {M : Type 1} → statement M
 serverinfo-fits-spec =
-    tie.close (tie.spec text-is-string-requires names-are-lists-requires returns)
+    tie.close (tie.spec (λ c κs. search needs) (λ c κs. search needs) returns)

@@ -6,12 +6,6 @@ use borrow.Author.Needs.{needs}
 use Rattle.allowed.proofs.temporary_fits.Statement.{statement}
 use Rattle.allowed.proofs.temporary_fits.Tie as tie
 
-enum-known-t : tie.Need-enum-known-t
-enum-known-t c = search needs
-
-enum-known-t-2 : tie.Need-enum-known-t-2
-enum-known-t-2 c = search needs
-
 returns : tie.Need-returns
 unfolding temporaryTest
 returns c = sym (ap temporaryTest (c .before .t .given .1))
@@ -21,4 +15,4 @@ unfolding temporaryTest
 returns-2 c = sym (ap temporaryTest (c .before .before .t2 .given .1))
 
 pub temporary-fits-spec : {M : Type 1} → statement M
-temporary-fits-spec = tie.close (tie.spec enum-known-t enum-known-t-2 returns returns-2)
+temporary-fits-spec = tie.close (tie.spec (λ c. search needs) (λ c. search needs) returns returns-2)

@@ -7,12 +7,9 @@ use Rattle.allowed.specs.Tests.{timeTest}
 use Rattle.allowed.proofs.time_fits.Statement.{statement}
 use Rattle.allowed.proofs.time_fits.Tie as tie
 
-is-wrong-time-requires : tie.Need-is-wrong-time-requires
-is-wrong-time-requires c κs = search needs
-
 returns : tie.Need-returns
 unfolding timeTest
 returns c = ap not (c .is-wrong-time .ensures) ∙ Bool·not-not _
 
 pub time-fits-spec : {M : Type 1} → statement M
-time-fits-spec = tie.close (tie.spec is-wrong-time-requires returns)
+time-fits-spec = tie.close (tie.spec (λ c κs. search needs) returns)

@@ -6,16 +6,17 @@ use Prim.Native.Nat.{_-_, _≤_}
 use native.Mathlib.Omega.{arith}
 use borrow.Author.Needs.{needs}
 use lib.ListN.{length}
+use Rattle.dem.specs.Limits.{entityCount}
 use Rattle.format.specs.Bytes.{bitOf}
 use Rattle.blocks.proofs.Marks.{Made, made-more, made-all}
 use Rattle.blocks.proofs.marks_of.Statement.{statement}
 use Rattle.blocks.proofs.marks_of.Tie as tie
 
 abbrev Inv-loop : tie.InvT-loop
-Inv-loop present marks₀ i₀ marks i = (length present ≡ 449) × Made bitOf present marks i
+Inv-loop present marks₀ i₀ marks i = (length present ≡ entityCount) × Made bitOf present marks i
 
 abbrev μ-loop : tie.MeasureT-loop
-μ-loop present marks₀ i₀ marks i = 449 - i
+μ-loop present marks₀ i₀ marks i = entityCount - i
 
 loop-holds : tie.Need-loop-holds Inv-loop μ-loop
 loop-holds c = (c .good .0 .1 .0 .1, (omega arith, sym (c .good .0 .1 .0 .1), refl))

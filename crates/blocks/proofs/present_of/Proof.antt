@@ -6,15 +6,16 @@ use native.Mathlib.Omega.{arith}
 use borrow.Author.Needs.{needs}
 use lib.ListN.{length}
 use lib.Dec.{ltb}
+use Rattle.dem.specs.Limits.{entityCount}
 use Rattle.blocks.proofs.Marks.{Made, made-more, made-all}
 use Rattle.blocks.proofs.present_of.Statement.{statement}
 use Rattle.blocks.proofs.present_of.Tie as tie
 
 abbrev Inv-loop : tie.InvT-loop
-Inv-loop since marks present₀ i₀ present i = (length marks ≡ 449) × Made (ltb since) marks present i
+Inv-loop since marks present₀ i₀ present i = (length marks ≡ entityCount) × Made (ltb since) marks present i
 
 abbrev μ-loop : tie.MeasureT-loop
-μ-loop since marks present₀ i₀ present i = 449 - i
+μ-loop since marks present₀ i₀ present i = entityCount - i
 
 loop-holds : tie.Need-loop-holds Inv-loop μ-loop
 loop-holds c = (c .good .0 .1 .0 .1, (omega arith, sym (c .good .0 .1 .0 .1), refl))

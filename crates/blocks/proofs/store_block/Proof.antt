@@ -12,7 +12,7 @@ add-put-block c = omega (arith, c .before .before .before .before .pre .0 (c .be
 put-block-requires : tie.Need-put-block-requires
 put-block-requires c κs =
     let p = c .before .before .before .before .pre in
-    ((λ e. p .0 (c .before .if1 .taken)), p .1, omega (arith, p .2))
+    (p .0 (c .before .if1 .taken), p .1, omega (arith, p .2))
 
 same-length : tie.Need-same-length
 same-length c = search needs

@@ -4,7 +4,7 @@
 use mathlib.Core.Path.{_≡_, refl, sym, ap, ap₂, _∙_, subst}
 use mathlib.Core.Bool.{Bool, true, false, true≢false, cond, not, _&&_}
 use mathlib.Core.Logic.{⊎-elim}
-use Prim.Native.Nat.{ℕ, suc, _+_, _-_, _≤_, _<_}
+use Prim.Native.Nat.{ℕ, suc, _+_, _-_, _*_, _≤_, _<_}
 use native.Mathlib.Omega.{arith}
 use borrow.Author.Needs.{needs}
 use denote.Ref.{now}
@@ -20,7 +20,7 @@ use Rattle.format.specs.Bytes.{Bytes, Result, refused, leWrite, bit}
 use Rattle.dem.specs.Kind
 use Rattle.format.specs.Layout.{Value, number, print}
 use Rattle.dem.specs.Scene.{Scene, Context, contextOf, inRange}
-use Rattle.dem.specs.Limits.{entityCount}
+use Rattle.dem.specs.Limits.{blockLimit, entityCount}
 use Rattle.dem.specs.Message.{Message, isMessage, layoutIn, updateSlots, sendUpdate, sendClient}
 use Rattle.wire.specs.Cursors.{gotten, parseAt}
 use Rattle.wire.specs.declared.Cursor.{Cursor}
@@ -56,11 +56,50 @@ use Rattle.blocks.proofs.Arms.{held, noBaseline, quick-moved, kept-form
 use Rattle.blocks.proofs.write_blocks.Statement.{statement}
 use Rattle.blocks.proofs.write_blocks.Tie as tie
 
+-- The scratch for a block's messages.
+abbrev slack : ℕ
+slack = 64
+
+abbrev bodySize : ℕ
+bodySize = blockLimit + slack
+
+-- ---- facts on numbers, each with nothing else in scope: `omega` and `cc` read all that is
+
+sent-always : {X : Type 0} → true ≡ false → X
+sent-always e = clash (cc)
+
+no-static-sound : Kind.sound ≢ Kind.static
+no-static-sound z = omega arith
+
+no-static-time : Kind.time ≢ Kind.static
+no-static-time z = omega arith
+
+no-static-client : Kind.clientdata ≢ Kind.static
+no-static-client z = omega arith
+
+room-16 : 16 ≤ slack
+room-16 = omega arith
+
+room-24 : 24 ≤ slack
+room-24 = omega arith
+
+room-32 : 32 ≤ slack
+room-32 = omega arith
+
+at-8 : {i : ℕ} → i < entityCount → Fits w64 (i * 8)
+at-8 h = omega arith
+
+at-16 : {i : ℕ} → i < entityCount → Fits w64 (i * 16)
+at-16 h = omega arith
+
+at-18 : {i : ℕ} → i < entityCount → Fits w64 (i * 18)
+at-18 h = omega arith
+
 -- Messages of a block from one place to another: the bounds that are kept, and that what is told and written from the one place on is what is
 -- told and written from the other on.
 abbrev Along : (ℕ → Scene → List ℕ → Result (List Message) → Wrote) → Bool → List ℕ → ℕ → ℕ → Scene → List ℕ → ℕ → ℕ → Scene → List ℕ → ℕ → ℕ → ℕ → List ℕ → ℕ → Type 0
 Along told on s end messages₀ scene₀ form₀ at₀ messages′ scene body at size kept marks since =
-    (messages′ + (length s - at) ≤ end) × (size + (length s - kept) ≤ 8000) × (length body ≡ 8064) × (inRange scene ≡ true)
+    (messages′ + (length s - at) ≤ end) × (size + (length s - kept) ≤ blockLimit) × (length body ≡ bodySize) × (inRange scene ≡ true)
     × (told messages₀ scene₀ form₀ (readAll messages scene₀ (drop at₀ s)) ≡ told messages′ scene (soFar on body size s kept at) (readAll messages scene (drop at s)))
     × (kept ≤ at) × Before marks since at (length s)
 
@@ -97,7 +136,7 @@ abbrev μ-loop4 : tie.MeasureT-loop4
 abbrev Inv-loop : tie.InvT-loop
 Inv-loop d from most given on room out₀ base baselines₀ records₀ marks₀ since₀ rest₀ body₀ stores start₀ blocks₀ messages₀ written₀ refusal₀ out baselines records marks since rest body start blocks messages written refusal =
     (refusal ≡ 0) × (start ≤ length d) × (messages ≤ start) × (blocks ≤ most) × (inRange (held baselines records (marked since marks) rest) ≡ true)
-    × (written ≤ room) × (length out ≡ length out₀) × (length body ≡ 8064) × Within marks (start + 1) × (since ≤ start)
+    × (written ≤ room) × (length out ≡ length out₀) × (length body ≡ bodySize) × Within marks (start + 1) × (since ≤ start)
     × (wroteOf (sceneOf given) (length d) stores base 0 0 0 out₀ (runOf on most room (sceneOf given) (drop from d))
     ≡ wroteOf (sceneOf given) (length d) stores base blocks messages written out
     (runOf on (most - blocks) (room - written) (held baselines records (marked since marks) rest) (drop start d)))
@@ -282,7 +321,7 @@ module _ {o : Opened} (p : Place o) where
   place-fits = omega (arith, p .inside, within o, body-long o)
 
   -- Room for what is kept and a message of so many bytes.
-  room-for : (n : ℕ) → n ≤ 64 → (p .kept ≤ p .at) × (p .at ≤ length (body o)) × (p .size + (p .at - p .kept) + n ≤ length (p .filled))
+  room-for : (n : ℕ) → n ≤ slack → (p .kept ≤ p .at) × (p .at ≤ length (body o)) × (p .size + (p .at - p .kept) + n ≤ length (p .filled))
   room-for n l = (p .reached .5, omega (arith, p .inside), omega (arith, p .reached .1, p .reached .2, p .inside, l))
 
   module _ (vs : List Value) (k : Cursor) (q : Parsed p vs k) where
@@ -628,11 +667,11 @@ ahead c = omega (arith, c .before .before .loop4 .inv .1, c .before .before .bef
 sound-parsed : (c : tie.After-sound-at Inv-loop3 μ-loop3 Inv-loop4 μ-loop4 Inv-loop2 μ-loop2 Inv-loop μ-loop) → Parsed (message (c .before .before .before)) (number Kind.sound ∷ soundValues (c .sound-at .result .heard)) (c .sound-at .result .cursor)
 sound-parsed c =
     let x = contextOf (scene (message (c .before .before .before))) in
-    kind-here (message (c .before .before .before)) Kind.sound x _ (c .sound-at .result .cursor) (sym (c .before .match .keys1)) refl (λ z. omega arith) refl (c .sound-at .ensures x)
+    kind-here (message (c .before .before .before)) Kind.sound x _ (c .sound-at .result .cursor) (sym (c .before .match .keys1)) refl no-static-sound refl (c .sound-at .ensures x)
 
 time-parsed : (c : tie.After-time-at Inv-loop3 μ-loop3 Inv-loop4 μ-loop4 Inv-loop2 μ-loop2 Inv-loop μ-loop) → Parsed (message (c .before .before .before .before)) (number 7 ∷ number (c .time-at .result .value) ∷ []) (c .time-at .result .cursor)
 time-parsed c =
-    kind-here (message (c .before .before .before .before)) 7 _ _ (c .time-at .result .cursor) (sym (c .before .before .match .keys2)) refl (λ z. omega arith)
+    kind-here (message (c .before .before .before .before)) 7 _ _ (c .time-at .result .cursor) (sym (c .before .before .match .keys2)) refl no-static-time
     (c .before .context .ensures _ _ _) (c .time-at .ensures)
 
 client-here : (c : tie.After-client-at Inv-loop3 μ-loop3 Inv-loop4 μ-loop4 Inv-loop2 μ-loop2 Inv-loop μ-loop)
@@ -644,14 +683,14 @@ client-here c =
 
 client-parsed : (c : tie.After-client-at Inv-loop3 μ-loop3 Inv-loop4 μ-loop4 Inv-loop2 μ-loop2 Inv-loop μ-loop) → Parsed (message (c .before .before .before)) (number 15 ∷ client-here c .sent) (c .client-at .result .cursor)
 client-parsed c =
-    kind-here (message (c .before .before .before)) 15 (contextOf (scene (message (c .before .before .before)))) _ (c .client-at .result .cursor) (sym (c .before .match .keys3)) refl (λ z. omega arith) refl (client-here c .read)
+    kind-here (message (c .before .before .before)) 15 (contextOf (scene (message (c .before .before .before)))) _ (c .client-at .result .cursor) (sym (c .before .match .keys3)) refl no-static-client refl (client-here c .read)
 
 -- Where nothing was sent needlessly, it is its own normal form.
 client-again : (c : tie.After-client-at Inv-loop3 μ-loop3 Inv-loop4 μ-loop4 Inv-loop2 μ-loop2 Inv-loop μ-loop) → c .client-at .result .needless ≡ false
     → Parsed (message (c .before .before .before)) (sendClient (clientValues (c .client-at .result .client))) (c .client-at .result .cursor)
 client-again c e =
     let x = contextOf (scene (message (c .before .before .before))) in
-    kind-here (message (c .before .before .before)) 15 x _ (c .client-at .result .cursor) (sym (c .before .match .keys3)) refl (λ z. omega arith) refl (c .client-at .ensures .1 x e)
+    kind-here (message (c .before .before .before)) 15 x _ (c .client-at .result .cursor) (sym (c .before .match .keys3)) refl no-static-client refl (c .client-at .ensures .1 x e)
 
 other-read : (c : tie.After-read-message Inv-loop3 μ-loop3 Inv-loop4 μ-loop4 Inv-loop2 μ-loop2 Inv-loop μ-loop) → Parsed (message (c .before .before .before .before .before .before .before)) (valuesOf (body (inBlock (c .before .before .before .before .before .before .before))) (c .read-message .result .message)) (c .read-message .result .cursor)
 other-read c =
@@ -668,7 +707,7 @@ update-read c =
     (c .read-update .result .update) (c .read-update .result .cursor) (c .read-update .ensures)
 
 -- The entity of a baseline, and of an update, is known.
-baseline-entity : (c : tie.After-message Inv-loop3 μ-loop3 Inv-loop4 μ-loop4 Inv-loop2 μ-loop2 Inv-loop μ-loop) → c .message .given .0 .0 .0 < 449
+baseline-entity : (c : tie.After-message Inv-loop3 μ-loop3 Inv-loop4 μ-loop4 Inv-loop2 μ-loop2 Inv-loop μ-loop) → c .message .given .0 .0 .0 < entityCount
 baseline-entity c =
     let r = c .before .before .before .before in
     let o = inBlock (r .before .before .before .before .before .before .before) in
@@ -677,10 +716,10 @@ baseline-entity c =
     (r .before .context3 .ensures _ _ _) (r .read-message .result .message) (r .read-message .result .cursor) (r .read-message .ensures) (c .before .before .if21 .left) _ _ _
     (c .message .given .1)
 
-baseline-index : (c : tie.After-index-of3 Inv-loop3 μ-loop3 Inv-loop4 μ-loop4 Inv-loop2 μ-loop2 Inv-loop μ-loop) → c .index-of3 .result < 449
+baseline-index : (c : tie.After-index-of3 Inv-loop3 μ-loop3 Inv-loop4 μ-loop4 Inv-loop2 μ-loop2 Inv-loop μ-loop) → c .index-of3 .result < entityCount
 baseline-index c = omega (arith, c .index-of3 .ensures, baseline-entity (c .before .before))
 
-update-entity : (c : tie.Else25 Inv-loop3 μ-loop3 Inv-loop4 μ-loop4 Inv-loop2 μ-loop2 Inv-loop μ-loop) → c .before .before .read-update .result .update .entity .0 < 449
+update-entity : (c : tie.Else25 Inv-loop3 μ-loop3 Inv-loop4 μ-loop4 Inv-loop2 μ-loop2 Inv-loop μ-loop) → c .before .before .read-update .result .update .entity .0 < entityCount
 update-entity c =
     let r = c .before .before in
     let o = inBlock (r .before .before .before .before .before) in
@@ -688,7 +727,7 @@ update-entity c =
     update-known (body o) (p .at) (p .inside) (p .baselines) (p .records) (present p) (p .rest) (p .going) (body-bytes o) _ refl (r .before .before .if18 .left)
     (r .read-update .result .update) (r .read-update .result .cursor) (r .read-update .ensures) (c .if25 .left)
 
-update-index : (c : tie.After-index-of5 Inv-loop3 μ-loop3 Inv-loop4 μ-loop4 Inv-loop2 μ-loop2 Inv-loop μ-loop) → c .index-of5 .result < 449
+update-index : (c : tie.After-index-of5 Inv-loop3 μ-loop3 Inv-loop4 μ-loop4 Inv-loop2 μ-loop2 Inv-loop μ-loop) → c .index-of5 .result < entityCount
 update-index c = omega (arith, c .index-of5 .ensures, update-entity (c .before .before .before))
 
 -- A message that is passed.
@@ -754,7 +793,7 @@ to-load c =
     (t .0, before-stop (length (input (blockOf o))) (end o) _ (message m .at) (m .before .before .before .before .before .before .before .before .quick-until .ensures) (ltb-true _ _ (t .1)) .1)
 
 -- Its entity and its mask were tested.
-tested : (c : tie.Then23 Inv-loop3 μ-loop3 Inv-loop4 μ-loop4 Inv-loop2 μ-loop2 Inv-loop μ-loop) → (c .before .index-of4 .result < 449) × (c .before .before .before .update-head3 .result .mask < 32768)
+tested : (c : tie.Then23 Inv-loop3 μ-loop3 Inv-loop4 μ-loop4 Inv-loop2 μ-loop2 Inv-loop μ-loop) → (c .before .index-of4 .result < entityCount) × (c .before .before .before .update-head3 .result .mask < 32768)
 tested c =
     let t = and-true _ _ (c .if23 .taken) in
     (ltb-true _ _ (t .0), ltb-true _ _ (t .1))
@@ -791,7 +830,7 @@ again-step c =
     let w = c .before .put-update-behind in
     update-step p _ (fieldsAgain r .next) (indexAgain r) _ (fieldsAgain r .record) (again r .index)
     (loaded-moved p (kindOf r) (headAgain r) (indexAgain r) (fieldsAgain r) (again r) (p .at) (omega arith) (omega (arith, moves-again r)))
-    true (λ e. to-load (r .before .before .before .before .before .before .before .before) .0) (λ on e. clash (cc)) _ _ _ (w .ensures (contextOf (scene p)))
+    true (λ e. to-load (r .before .before .before .before .before .before .before .before) .0) (λ on e. sent-always e) _ _ _ (w .ensures (contextOf (scene p)))
 
 -- ---- where the arms meet
 
@@ -828,7 +867,7 @@ cleared-marks : (c : AtNext) (b : List Baseline) (e : List Record) (x : Rest) (t
     → let k = message (c .before .before) in
     c .match .baselines ≡ b → c .match .records ≡ e → c .match .marks ≡ k .marks → c .match .since ≡ k .at → c .match .rest ≡ x → c .match .body ≡ k .filled
     → c .match .at ≡ to → c .match .size ≡ k .size → c .match .kept ≡ k .kept
-    → Moved (body (inBlock (c .before .before))) (scene k) (k .at) (held b e (replicate 449 false) x) to (take (to - k .at) (drop (k .at) (body (inBlock (c .before .before))))) → Here c
+    → Moved (body (inBlock (c .before .before))) (scene k) (k .at) (held b e (replicate entityCount false) x) to (take (to - k .at) (drop (k .at) (body (inBlock (c .before .before))))) → Here c
 cleared-marks c b e x to eb ee em en ex ef et es ek mv =
     let k = message (c .before .before) in
     let s = body (inBlock (c .before .before)) in
@@ -857,7 +896,7 @@ came c =
     (behind-step k _ to _
     (sound-moved s (k .at) l (k .baselines) (k .records) (present k) (k .rest) g (w .1 .result .heard) (w .1 .result .cursor)
     (sound-parsed (record { before = record { before = c .before; match = w .0 }; sound-at = w .1 })) (w .3 .left))
-    _ (λ e. e) (λ on e. let z : true ≡ false = sym on ∙ e in clash (cc)) _ _ _ (w .6 .ensures x)))
+    _ (λ e. e) (λ on e. sent-always (sym on ∙ e)) _ _ _ (w .6 .ensures x)))
     (⊎-elim
     (λ w.
     cleared-marks c (k .baselines) (k .records) (w .5 .result) (w .2 .result .cursor .at) (w .6) (w .7) (w .8) (w .9) (w .10) (w .11) (w .12) (w .13) (w .14)
@@ -896,7 +935,7 @@ came c =
     let moved = update-moved s (k .at) l (k .baselines) (k .records) (present k) (k .rest) g h _ refl (w .1 .left) (w .3 .result .update) (w .3 .result .cursor) (w .3 .ensures) (w .5 .left) i (w .8 .ensures) (w .10 .result) (w .10 .ensures) in
     let here : k .at ≤ to = omega (arith, less k _ to _ moved) in
     arrived c (k .baselines) (set (k .records) i (w .10 .result)) (set (k .marks) i (k .at)) (k .since) (k .rest) _ to (w .12 .result .size) (w .12 .result .kept) (w .14) (w .15) (w .16) (w .17) (w .18) (w .19) (w .20) (w .21) (w .22)
-    (update-step k _ to i _ (w .10 .result) (w .8 .ensures) (marked-moved k (set (k .records) i (w .10 .result)) i to _ moved (k .at) (omega arith) here (omega (arith, l))) _ (λ e. e) (λ on e. let z : true ≡ false = sym on ∙ e in clash (cc)) _ _ _ (w .12 .ensures x))
+    (update-step k _ to i _ (w .10 .result) (w .8 .ensures) (marked-moved k (set (k .records) i (w .10 .result)) i to _ moved (k .at) (omega arith) here (omega (arith, l))) _ (λ e. e) (λ on e. sent-always (sym on ∙ e)) _ _ _ (w .12 .ensures x))
     (marked-later k (set (k .records) i (w .10 .result)) i to _ moved (k .at) (omega arith) here (omega (arith, l)))))))))
     (c .match .came)
 
@@ -915,13 +954,13 @@ sizeOf c = c .put-copy .result
 abbrev filledOf : Copied → List ℕ
 filledOf c = c .put-copy .last .1 .0
 
-fits : (c : Copied) → (sizeOf c ≤ 8000) × (length (filledOf c) ≡ 8064)
+fits : (c : Copied) → (sizeOf c ≤ blockLimit) × (length (filledOf c) ≡ bodySize)
 fits c =
     let k = left c .loop2 in
     let s = body (left c .before .before) in
     (room (begun (blockOf (left c .before .before)) .args .on) (c .put-copy .ensures .2), c .put-copy .ensures .1 ∙ k .inv .2)
   where
-    room : (on : Bool) → sizeOf c ≡ left c .loop2 .size + length (cond on (take (left c .loop2 .at - left c .loop2 .kept) (drop (left c .loop2 .kept) (body (left c .before .before)))) []) → sizeOf c ≤ 8000
+    room : (on : Bool) → sizeOf c ≡ left c .loop2 .size + length (cond on (take (left c .loop2 .at - left c .loop2 .kept) (drop (left c .loop2 .kept) (body (left c .before .before)))) []) → sizeOf c ≤ blockLimit
     room true e = omega (arith, e, left c .loop2 .inv .1, length-take (left c .loop2 .at - left c .loop2 .kept) (drop (left c .loop2 .kept) (body (left c .before .before))), length-drop (left c .loop2 .kept) (body (left c .before .before)))
     room false e = omega (arith, e, left c .loop2 .inv .1)
 
@@ -1137,7 +1176,7 @@ index-of-requires : tie.Need-index-of-requires Inv-loop3 μ-loop3 Inv-loop4 μ-l
 index-of-requires c κs = search needs
 
 mul-b : tie.Need-mul-b Inv-loop3 μ-loop3 Inv-loop4 μ-loop4 Inv-loop2 μ-loop2 Inv-loop μ-loop
-mul-b c = omega (arith, c .before .before .if5 .left)
+mul-b c = at-16 (c .before .before .if5 .left)
 
 array-copy-out-b : tie.Need-array-copy-out-b Inv-loop3 μ-loop3 Inv-loop4 μ-loop4 Inv-loop2 μ-loop2 Inv-loop μ-loop
 array-copy-out-b c = c .before .before .if5 .left
@@ -1146,13 +1185,13 @@ needed-fields-requires : tie.Need-needed-fields-requires Inv-loop3 μ-loop3 Inv-
 needed-fields-requires c κs = omega (arith, c .before .before .before .before .before .before .update-head .ensures .1, to-write (c .before .before .before .before .before .before .before .before .before))
 
 mul-records : tie.Need-mul-records Inv-loop3 μ-loop3 Inv-loop4 μ-loop4 Inv-loop2 μ-loop2 Inv-loop μ-loop
-mul-records c = omega (arith, found-written c .known)
+mul-records c = at-18 (found-written c .known)
 
 array-set-from-records : tie.Need-array-set-from-records Inv-loop3 μ-loop3 Inv-loop4 μ-loop4 Inv-loop2 μ-loop2 Inv-loop μ-loop
 array-set-from-records c = found-written c .known
 
 mul-marks : tie.Need-mul-marks Inv-loop3 μ-loop3 Inv-loop4 μ-loop4 Inv-loop2 μ-loop2 Inv-loop μ-loop
-mul-marks c = omega (arith, found-written c .known)
+mul-marks c = at-8 (found-written c .known)
 
 array-write-marks : tie.Need-array-write-marks Inv-loop3 μ-loop3 Inv-loop4 μ-loop4 Inv-loop2 μ-loop2 Inv-loop μ-loop
 array-write-marks c = found-written c .known
@@ -1188,7 +1227,7 @@ index-of-requires-2 : tie.Need-index-of-requires-2 Inv-loop3 μ-loop3 Inv-loop4 
 index-of-requires-2 c κs = search needs
 
 mul-b-2 : tie.Need-mul-b-2 Inv-loop3 μ-loop3 Inv-loop4 μ-loop4 Inv-loop2 μ-loop2 Inv-loop μ-loop
-mul-b-2 c = omega (arith, c .before .if11 .left)
+mul-b-2 c = at-16 (c .before .if11 .left)
 
 array-copy-out-b-2 : tie.Need-array-copy-out-b-2 Inv-loop3 μ-loop3 Inv-loop4 μ-loop4 Inv-loop2 μ-loop2 Inv-loop μ-loop
 array-copy-out-b-2 c = c .before .if11 .left
@@ -1197,13 +1236,13 @@ update-fields-requires : tie.Need-update-fields-requires Inv-loop3 μ-loop3 Inv-
 update-fields-requires c κs = omega (arith, c .before .before .before .before .before .update-head2 .ensures .1, to-read (c .before .before .before .before .before .before .before .before) .2)
 
 mul-records-2 : tie.Need-mul-records-2 Inv-loop3 μ-loop3 Inv-loop4 μ-loop4 Inv-loop2 μ-loop2 Inv-loop μ-loop
-mul-records-2 c = omega (arith, found-read c .known)
+mul-records-2 c = at-18 (found-read c .known)
 
 array-set-from-records-2 : tie.Need-array-set-from-records-2 Inv-loop3 μ-loop3 Inv-loop4 μ-loop4 Inv-loop2 μ-loop2 Inv-loop μ-loop
 array-set-from-records-2 c = found-read c .known
 
 mul-marks-2 : tie.Need-mul-marks-2 Inv-loop3 μ-loop3 Inv-loop4 μ-loop4 Inv-loop2 μ-loop2 Inv-loop μ-loop
-mul-marks-2 c = omega (arith, found-read c .known)
+mul-marks-2 c = at-8 (found-read c .known)
 
 array-write-marks-2 : tie.Need-array-write-marks-2 Inv-loop3 μ-loop3 Inv-loop4 μ-loop4 Inv-loop2 μ-loop2 Inv-loop μ-loop
 array-write-marks-2 c = found-read c .known
@@ -1251,7 +1290,7 @@ slice-aggregate-put-sound-behind : tie.Need-slice-aggregate-put-sound-behind Inv
 slice-aggregate-put-sound-behind c = sym (message (c .before .before .before .before .before .before .before) .reached .2)
 
 put-sound-behind-requires : tie.Need-put-sound-behind-requires Inv-loop3 μ-loop3 Inv-loop4 μ-loop4 Inv-loop2 μ-loop2 Inv-loop μ-loop
-put-sound-behind-requires c κs = room-for (message (c .before .before .before .before .before .before .before)) 16 (omega arith)
+put-sound-behind-requires c κs = room-for (message (c .before .before .before .before .before .before .before)) 16 room-16
 
 context-requires : tie.Need-context-requires Inv-loop3 μ-loop3 Inv-loop4 μ-loop4 Inv-loop2 μ-loop2 Inv-loop μ-loop
 context-requires c κs = search needs
@@ -1292,7 +1331,7 @@ slice-aggregate-put-client-behind : tie.Need-slice-aggregate-put-client-behind I
 slice-aggregate-put-client-behind c = sym (message (c .before .before .before .before .before .before .before .before) .reached .2)
 
 put-client-behind-requires : tie.Need-put-client-behind-requires Inv-loop3 μ-loop3 Inv-loop4 μ-loop4 Inv-loop2 μ-loop2 Inv-loop μ-loop
-put-client-behind-requires c κs = room-for (message (c .before .before .before .before .before .before .before .before)) 32 (omega arith)
+put-client-behind-requires c κs = room-for (message (c .before .before .before .before .before .before .before .before)) 32 room-32
 
 with-client-requires : tie.Need-with-client-requires Inv-loop3 μ-loop3 Inv-loop4 μ-loop4 Inv-loop2 μ-loop2 Inv-loop μ-loop
 with-client-requires c κs = search needs
@@ -1352,7 +1391,7 @@ index-of-requires-3 : tie.Need-index-of-requires-3 Inv-loop3 μ-loop3 Inv-loop4 
 index-of-requires-3 c κs = search needs
 
 mul-baselines : tie.Need-mul-baselines Inv-loop3 μ-loop3 Inv-loop4 μ-loop4 Inv-loop2 μ-loop2 Inv-loop μ-loop
-mul-baselines c = omega (arith, baseline-index c)
+mul-baselines c = at-16 (baseline-index c)
 
 array-set-from-baselines : tie.Need-array-set-from-baselines Inv-loop3 μ-loop3 Inv-loop4 μ-loop4 Inv-loop2 μ-loop2 Inv-loop μ-loop
 array-set-from-baselines c = baseline-index c
@@ -1377,7 +1416,7 @@ index-of-requires-4 : tie.Need-index-of-requires-4 Inv-loop3 μ-loop3 Inv-loop4 
 index-of-requires-4 c κs = search needs
 
 mul-b-3 : tie.Need-mul-b-3 Inv-loop3 μ-loop3 Inv-loop4 μ-loop4 Inv-loop2 μ-loop2 Inv-loop μ-loop
-mul-b-3 c = omega (arith, tested c)
+mul-b-3 c = at-16 (tested c .0)
 
 array-copy-out-b-3 : tie.Need-array-copy-out-b-3 Inv-loop3 μ-loop3 Inv-loop4 μ-loop4 Inv-loop2 μ-loop2 Inv-loop μ-loop
 array-copy-out-b-3 c = tested c .0
@@ -1389,16 +1428,16 @@ slice-aggregate-put-update-behind : tie.Need-slice-aggregate-put-update-behind I
 slice-aggregate-put-update-behind c = sym (placeOf (c .before) .reached .2)
 
 put-update-behind-requires : tie.Need-put-update-behind-requires Inv-loop3 μ-loop3 Inv-loop4 μ-loop4 Inv-loop2 μ-loop2 Inv-loop μ-loop
-put-update-behind-requires c κs = room-for (placeOf (c .before)) _ (omega arith)
+put-update-behind-requires c κs = room-for (placeOf (c .before)) 24 room-24
 
 mul-records-3 : tie.Need-mul-records-3 Inv-loop3 μ-loop3 Inv-loop4 μ-loop4 Inv-loop2 μ-loop2 Inv-loop μ-loop
-mul-records-3 c = omega (arith, tested (c .before .before .before .before .before .before .before))
+mul-records-3 c = at-18 (tested (c .before .before .before .before .before .before .before) .0)
 
 array-set-from-records-3 : tie.Need-array-set-from-records-3 Inv-loop3 μ-loop3 Inv-loop4 μ-loop4 Inv-loop2 μ-loop2 Inv-loop μ-loop
 array-set-from-records-3 c = tested (c .before .before .before .before .before .before .before) .0
 
 mul-marks-3 : tie.Need-mul-marks-3 Inv-loop3 μ-loop3 Inv-loop4 μ-loop4 Inv-loop2 μ-loop2 Inv-loop μ-loop
-mul-marks-3 c = omega (arith, tested (c .before .before .before .before .before .before .before) .0)
+mul-marks-3 c = at-8 (tested (c .before .before .before .before .before .before .before) .0)
 
 array-write-marks-3 : tie.Need-array-write-marks-3 Inv-loop3 μ-loop3 Inv-loop4 μ-loop4 Inv-loop2 μ-loop2 Inv-loop μ-loop
 array-write-marks-3 c = tested (c .before .before .before .before .before .before .before) .0
@@ -1433,7 +1472,7 @@ index-of-requires-5 : tie.Need-index-of-requires-5 Inv-loop3 μ-loop3 Inv-loop4 
 index-of-requires-5 c κs = search needs
 
 mul-b-4 : tie.Need-mul-b-4 Inv-loop3 μ-loop3 Inv-loop4 μ-loop4 Inv-loop2 μ-loop2 Inv-loop μ-loop
-mul-b-4 c = omega (arith, update-index c)
+mul-b-4 c = at-16 (update-index c)
 
 array-copy-out-b-4 : tie.Need-array-copy-out-b-4 Inv-loop3 μ-loop3 Inv-loop4 μ-loop4 Inv-loop2 μ-loop2 Inv-loop μ-loop
 array-copy-out-b-4 c = update-index c
@@ -1445,16 +1484,16 @@ slice-aggregate-put-update-behind-2 : tie.Need-slice-aggregate-put-update-behind
 slice-aggregate-put-update-behind-2 c = sym (message (c .before .before .before .before .before .before .before .before .before .before .before .before .before) .reached .2)
 
 put-update-behind-requires-2 : tie.Need-put-update-behind-requires-2 Inv-loop3 μ-loop3 Inv-loop4 μ-loop4 Inv-loop2 μ-loop2 Inv-loop μ-loop
-put-update-behind-requires-2 c κs = room-for (message (c .before .before .before .before .before .before .before .before .before .before .before .before .before)) _ (omega arith)
+put-update-behind-requires-2 c κs = room-for (message (c .before .before .before .before .before .before .before .before .before .before .before .before .before)) 24 room-24
 
 mul-records-4 : tie.Need-mul-records-4 Inv-loop3 μ-loop3 Inv-loop4 μ-loop4 Inv-loop2 μ-loop2 Inv-loop μ-loop
-mul-records-4 c = omega (arith, update-index (c .before .before .before .before .before))
+mul-records-4 c = at-18 (update-index (c .before .before .before .before .before))
 
 array-set-from-records-4 : tie.Need-array-set-from-records-4 Inv-loop3 μ-loop3 Inv-loop4 μ-loop4 Inv-loop2 μ-loop2 Inv-loop μ-loop
 array-set-from-records-4 c = update-index (c .before .before .before .before .before)
 
 mul-marks-4 : tie.Need-mul-marks-4 Inv-loop3 μ-loop3 Inv-loop4 μ-loop4 Inv-loop2 μ-loop2 Inv-loop μ-loop
-mul-marks-4 c = omega (arith, update-index (c .before .before .before .before .before))
+mul-marks-4 c = at-8 (update-index (c .before .before .before .before .before))
 
 array-write-marks-4 : tie.Need-array-write-marks-4 Inv-loop3 μ-loop3 Inv-loop4 μ-loop4 Inv-loop2 μ-loop2 Inv-loop μ-loop
 array-write-marks-4 c = update-index (c .before .before .before .before .before)

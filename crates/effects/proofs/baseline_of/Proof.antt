@@ -6,6 +6,7 @@ use native.Mathlib.Omega.{arith}
 use borrow.Author.Needs.{needs}
 use lib.IntN.{pos}
 use lib.ListN.{length, length-map, List·getD-eq-default}
+use Rattle.dem.specs.Limits.{entityCount}
 use Rattle.dem.specs.Scene.{zeroBaseline}
 use Rattle.scene.specs.Views.{sceneWith, baselineNumbers}
 use Rattle.scene.proofs.Ranges.{length-of}
@@ -37,7 +38,7 @@ returns-2 : tie.Need-returns-2
 unfolding sceneWith
 returns-2 c =
     let a = c .before .before .args in
-    let n : length (a .t1 .baselines) ≡ 449 = length-of _ (a .t1 .baselines) 449 (c .before .before .good .0 .1 .1 .0 .1 .0 .1) in
+    let n : length (a .t1 .baselines) ≡ entityCount = length-of _ (a .t1 .baselines) entityCount (c .before .before .good .0 .1 .1 .0 .1 .0 .1) in
     sym (List·getD-eq-default (map baselineNumbers (a .t1 .baselines)) zeroBaseline {n = a .entity .0}
     (omega (arith, length-map (a .t1 .baselines) baselineNumbers, c .before .index-of .ensures)))
 

@@ -4,7 +4,10 @@ use mathlib.Core.Path.{_∙_}
 use mathlib.Core.Bool.{false}
 use borrow.Author.Tests.{leb-true}
 use lib.ListN.{replicate}
+use Rattle.dem.specs.Kind
+use Rattle.dem.specs.Limits.{entityCount}
 use Rattle.dem.specs.Message.{apply, fill}
+use Rattle.wire.specs.Cursors.{placed}
 use Rattle.message.specs.Values.{valuesBy}
 use Rattle.scene.specs.Views.{sceneWith, sceneOf}
 use Rattle.effects.proofs.Tables.{matched, time-tables, others-tableless, tables-kept, rest-joined}
@@ -41,38 +44,42 @@ apply-rest-requires-2 c κs = search needs
 
 returns : tie.Need-returns
 unfolding fill
-returns c t n =
-    let s = sceneOf (c .before .before .before .before .args .s) in
+returns c n =
+    let a = c .before .before .before .before .before .args in
     let e = c .before .before .m .given .1 in
-    c .with-update .ensures (leb-true 128 _ (n _ e)) ∙ matched s t _ _ e
+    c .with-update .ensures (leb-true Kind.update _ (n _ e)) ∙ matched (sceneOf (a .s)) (placed (a .text .now)) _ _ e
 
 returns-2 : tie.Need-returns-2
 unfolding fill
-returns-2 c t n =
-    c .with-baseline .ensures ∙ matched (sceneOf (c .before .before .before .before .args .s)) t _ _ (c .before .before .m2 .given .1)
+returns-2 c n =
+    let a = c .before .before .before .before .before .args in
+    c .with-baseline .ensures ∙ matched (sceneOf (a .s)) (placed (a .text .now)) _ _ (c .before .before .m2 .given .1)
 
 returns-3 : tie.Need-returns-3
 unfolding apply fill
-returns-3 c t n =
-    c .cleared-scene .ensures ∙ matched (sceneOf (c .before .before .before .before .args .s)) t _ _ (c .before .before .m3 .given .1)
+returns-3 c n =
+    let a = c .before .before .before .before .before .args in
+    c .cleared-scene .ensures ∙ matched (sceneOf (a .s)) (placed (a .text .now)) _ _ (c .before .before .m3 .given .1)
 
 returns-4 : tie.Need-returns-4
 unfolding sceneWith
-returns-4 c t n =
-    let a = c .before .before .before .before .args in
+returns-4 c n =
+    let a = c .before .before .before .before .before .args in
     let s = sceneOf (a .s) in
+    let t = placed (a .text .now) in
     let k = time-tables s t (a .m) _ (c .before .before .enum-told .given .1) in
-    rest-joined (apply s (fill s (valuesBy t (a .m)))) (c .apply-rest .result) (s .baselines) (s .records) (replicate 449 false)
-    (c .apply-rest .ensures (s .baselines) (s .records) (s .present) t n) (k .0) (k .1) (k .2)
+    rest-joined (apply s (fill s (valuesBy t (a .m)))) (c .apply-rest .result) (s .baselines) (s .records) (replicate entityCount false)
+    (c .apply-rest .ensures (s .baselines) (s .records) (s .present) n) (k .0) (k .1) (k .2)
 
 returns-5 : tie.Need-returns-5
 unfolding sceneWith
-returns-5 c t n =
-    let a = c .before .before .before .args in
+returns-5 c n =
+    let a = c .before .before .before .before .args in
     let s = sceneOf (a .s) in
+    let t = placed (a .text .now) in
     let k = tables-kept s t (a .m) (others-tableless (a .m) (c .before .before .match .keys5)) in
     rest-joined (apply s (fill s (valuesBy t (a .m)))) (c .apply-rest2 .result) (s .baselines) (s .records) (s .present)
-    (c .apply-rest2 .ensures (s .baselines) (s .records) (s .present) t n) (k .0) (k .1) (k .2)
+    (c .apply-rest2 .ensures (s .baselines) (s .records) (s .present) n) (k .0) (k .1) (k .2)
 
 pub scene-after-spec : {M : Type 1} → statement M
 scene-after-spec =

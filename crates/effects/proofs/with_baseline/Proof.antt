@@ -6,6 +6,7 @@ use Prim.Native.Nat.{ℕ}
 use native.Mathlib.Omega.{arith}
 use borrow.Author.Needs.{needs}
 use lib.ListN.{length}
+use Rattle.dem.specs.Limits.{entityCount}
 use Rattle.dem.specs.Message.{apply}
 use Rattle.scene.specs.Views.{sceneWith, sceneOf, baselineNumbers, withTables}
 use Rattle.scene.proofs.Ranges.{length-of}
@@ -36,7 +37,7 @@ unfolding sceneWith apply
 returns-2 c =
     let a = c .before .before .args in
     let s = sceneOf (a .s) in
-    let n : length (a .s .baselines) ≡ 449 = length-of _ (a .s .baselines) 449 (c .before .before .good .0 .1 .1 .0 .1 .0 .1) in
+    let n : length (a .s .baselines) ≡ entityCount = length-of _ (a .s .baselines) entityCount (c .before .before .good .0 .1 .1 .0 .1 .0 .1) in
     ap (λ (l : List (List ℕ)). withTables l (s .records) (s .present) s)
     (set-past baselineNumbers (a .s .baselines) (a .entity .0) _ (omega (arith, c .before .index-of .ensures)))
 

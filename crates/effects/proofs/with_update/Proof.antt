@@ -8,6 +8,7 @@ use native.Mathlib.Omega.{arith}
 use borrow.Author.Needs.{needs}
 use lib.ListN.{length, set}
 use lib.Seq.{set-out}
+use Rattle.dem.specs.Limits.{entityCount}
 use Rattle.scene.specs.Views.{sceneWith, sceneOf, baselineNumbers, recordNumbers, withTables}
 use Rattle.scene.proofs.Ranges.{length-of}
 use Rattle.scene.proofs.Changes.{set-seen, set-past}
@@ -56,8 +57,8 @@ returns-2 c h =
     let f = c .before .fill-update in
     let i = a .u .entity .0 in
     let e = c .before .before .before .index-of .ensures in
-    let n : length (a .s .records) ≡ 449 = length-of _ (a .s .records) 449 (g .0 .1 .1 .1 .0 .1 .0 .1) in
-    let m : length (a .s .present) ≡ 449 = length-of _ (a .s .present) 449 (g .0 .1 .1 .1 .1 .0 .1 .0 .1) in
+    let n : length (a .s .records) ≡ entityCount = length-of _ (a .s .records) entityCount (g .0 .1 .1 .1 .0 .1 .0 .1) in
+    let m : length (a .s .present) ≡ entityCount = length-of _ (a .s .present) entityCount (g .0 .1 .1 .1 .1 .0 .1 .0 .1) in
     ap₂ (λ (l : List (List ℕ)) (p : List Bool). withTables (s .baselines) l p s)
     (set-past recordNumbers (a .s .records) i (recordNumbers (f .result)) (omega (arith, e)))
     (sym (set-out (a .s .present) i true (omega (arith, e))))

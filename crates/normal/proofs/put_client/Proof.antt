@@ -5,17 +5,10 @@ use mir.Syntax.{w32}
 use mir.Val.{ofZ}
 use Rattle.message.specs.Values.{suppliesValues}
 use Rattle.wire.proofs.SignedLaws.{same-bits}
-use Rattle.normal.proofs.PutLaws.{put-none, put-unsent, put-sent}
 use Rattle.normal.proofs.ClientBytes.{client-put}
-use borrow.Author.Tests.{not-true, not-false}
 use borrow.Author.Needs.{needs}
 use Rattle.normal.proofs.put_client.Statement.{statement}
 use Rattle.normal.proofs.put_client.Tie as tie
-
-returns : tie.Need-returns
-returns c x =
-    let a = c .before .before .args in
-    put-unsent (a .out .now) (a .out .now) (a .at) _ (a .on) (not-true (a .on) (c .if1 .taken)) (put-none (a .out .now) (a .at))
 
 motion-bits-requires : tie.Need-motion-bits-requires
 motion-bits-requires c κs = search needs
@@ -38,28 +31,26 @@ put-states-requires c κs = search needs
 same-length : tie.Need-same-length
 same-length c = search needs
 
-returns-2 : tie.Need-returns-2
-returns-2 c x =
+returns : tie.Need-returns
+returns c x =
     let q3 = c .before .before in
     let q2 = q3 .before .before .before .before in
     let q1 = q2 .before .before .before .before in
     let n = q1 .before .before in
-    let a = n .before .before .before .before .before .before .before .before .args in
+    let a = n .before .before .before .before .before .before .before .args in
     let u = n .before .unsigned32 in
     let m = n .before .before .before .motion-bits in
     let r1 = q1 .put-byte-if in
     let r2 = q2 .put-short-if in
     let r3 = q3 .put-states in
     let items = u .ensures ∙ same-bits w32 (a .c .items) (ofZ w32 (a .c .items)) (record { sfits = n .before .before .struct-told .given .1 .1 .1 .0 .1 }) refl in
-    put-sent (a .out .now) (r3 .last .0) (a .at) _ (a .on) (r3 .result) (not-false (a .on) (n .before .before .before .before .before .before .if1 .left))
-    (client-put (a .c) (m .result) (u .result) (n .client-mask .result) (m .ensures) items (n .client-mask .ensures (u .result) (suppliesValues (a .c .supplies)))
-    (a .out .now) (r1 .last .0) (r2 .last .0) (r3 .last .0) (a .at) (r1 .result) (r2 .result) (r3 .result) (r1 .ensures .0) (r2 .ensures .0) (r3 .ensures) x)
+    client-put (a .c) (m .result) (u .result) (n .client-mask .result) (m .ensures) items (n .client-mask .ensures (u .result) (suppliesValues (a .c .supplies)))
+    (a .out .now) (r1 .last .0) (r2 .last .0) (r3 .last .0) (a .at) (r1 .result) (r2 .result) (r3 .result) (r1 .ensures .0) (r2 .ensures .0) (r3 .ensures) x
 
 pub put-client-spec : {M : Type 1} → statement M
 put-client-spec =
     tie.close
     (tie.spec
-    returns
     motion-bits-requires
     unsigned32-requires
     client-mask-requires
@@ -67,4 +58,4 @@ put-client-spec =
     put-short-if-requires
     put-states-requires
     same-length
-    returns-2)
+    returns)

@@ -37,7 +37,7 @@ returns-2 c x =
     let f = q .put-copy in
     let a = q .before .before .before .before .before .args in
     let front = take (a .at - a .kept) (drop (a .kept) (a .s .now)) in
-    behind-put (a .anew) (a .out .now) (f .last .1 .0) (g .last .1 .0) (a .size) (a .kept) (f .result) (g .result) (a .to) front _
+    behind-put (a .anew) (a .out .now) (f .last .1 .0) (g .last .0) (a .size) (a .kept) (f .result) (g .result) (a .to) front _
     (not-false (a .anew) (q .before .before .if1 .left)) (f .ensures) (g .ensures x)
 
 pub put-client-behind-spec : {M : Type 1} → statement M

@@ -1,16 +1,9 @@
 -- `normal::put_update` meets its contract: the head and the fields that differ are the bytes of the normal form.
 -- Assumes nothing.
-use Rattle.normal.proofs.PutLaws.{put-none, put-unsent, put-sent}
 use Rattle.normal.proofs.UpdateBytes.{update-put}
-use borrow.Author.Tests.{not-true, not-false}
 use borrow.Author.Needs.{needs}
 use Rattle.normal.proofs.put_update.Statement.{statement}
 use Rattle.normal.proofs.put_update.Tie as tie
-
-returns : tie.Need-returns
-returns c x =
-    let a = c .before .before .args in
-    put-unsent (a .out .now) (a .out .now) (a .at) _ (a .on) (not-true (a .on) (c .if1 .taken)) (put-none (a .out .now) (a .at))
 
 pose-bits-requires : tie.Need-pose-bits-requires
 pose-bits-requires c κs = search needs
@@ -33,12 +26,12 @@ put-fields-requires c κs = search needs
 same-length : tie.Need-same-length
 same-length c = search needs
 
-returns-2 : tie.Need-returns-2
-returns-2 c x =
+returns : tie.Need-returns
+returns c x =
     let q2 = c .before .before in
     let q1 = q2 .before .before .before .before in
     let b1 = q1 .before .before in
-    let a = b1 .before .before .before .before .before .before .before .before .args in
+    let a = b1 .before .before .before .before .before .before .before .args in
     let n = b1 .low-byte in
     let h = b1 .before .high-byte in
     let o = b1 .before .before .pose-bits2 in
@@ -46,15 +39,13 @@ returns-2 c x =
     let f = q1 .put-head in
     let g = q2 .put-fields in
     let eh = h .ensures (a .r .bit5) in
-    put-sent (a .out .now) (g .last .0) (a .at) _ (a .on) (g .result) (not-false (a .on) (b1 .before .before .before .before .before .before .if1 .left))
-    (update-put (a .entity .0) (a .r) (a .b) (p .result) (o .result) (n .result) (h .result) (p .ensures) (o .ensures) eh
-    (n .ensures (a .entity .0) (a .r .effects) eh) (a .out .now) (f .last .0) (g .last .0) (a .at) (f .result) (g .result) (f .ensures .0) (g .ensures) x)
+    update-put (a .entity .0) (a .r) (a .b) (p .result) (o .result) (n .result) (h .result) (p .ensures) (o .ensures) eh
+    (n .ensures (a .entity .0) (a .r .effects) eh) (a .out .now) (f .last .0) (g .last .0) (a .at) (f .result) (g .result) (f .ensures .0) (g .ensures) x
 
 pub put-update-spec : {M : Type 1} → statement M
 put-update-spec =
     tie.close
     (tie.spec
-    returns
     pose-bits-requires
     pose-bits-requires-2
     high-byte-requires
@@ -62,4 +53,4 @@ put-update-spec =
     put-head-requires
     put-fields-requires
     same-length
-    returns-2)
+    returns)

@@ -42,7 +42,7 @@ returns-2 c x =
     let a = q .before .before .before .before .before .args in
     let front = take (a .at - a .kept) (drop (a .kept) (a .s .now)) in
     let anew = print (layout x) (sendUpdate (baselineNumbers (a .b)) (number (a .entity .0) ∷ recordValues (a .r))) in
-    behind-put (a .anew) (a .out .now) (f .last .1 .0) (g .last .1 .0) (a .size) (a .kept) (f .result) (g .result) (a .to) front anew
+    behind-put (a .anew) (a .out .now) (f .last .1 .0) (g .last .0) (a .size) (a .kept) (f .result) (g .result) (a .to) front anew
     (not-false (a .anew) (q .before .before .if1 .left)) (f .ensures) (g .ensures x)
 
 pub put-update-behind-spec : {M : Type 1} → statement M

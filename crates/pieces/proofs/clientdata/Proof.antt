@@ -1,6 +1,5 @@
 -- `pieces::clientdata` meets its contract: each piece has the bytes of its field.
 -- Assumes nothing.
-use mathlib.Core.Path.{refl}
 use mir.Syntax.{w8, w16, w32}
 use Rattle.dem.specs.Message.{layout, kindLayout}
 use Rattle.pieces.proofs.PrintLaws.{bits-of, prints-done, prints-field}
@@ -37,18 +36,18 @@ returns c x t =
     let h = p14 .before .struct-told10 .given in
     (prints-field (p0 .from-u8 .ensures)
     (prints-field (p1 .number2 .ensures)
-    (prints-field (bits-of w8 (a .c .motion .«view_height») (f .0 .1) (p2 .sent-i8 .ensures 0 refl))
-    (prints-field (bits-of w8 (a .c .motion .pitch) (f .1 .0 .1) (p3 .sent-i82 .ensures 1 refl))
-    (prints-field (bits-of w8 (a .c .motion .punch0) (f .1 .1 .0 .1) (p4 .sent-i83 .ensures 2 refl))
-    (prints-field (bits-of w8 (a .c .motion .velocity0) (f .1 .1 .1 .0 .1) (p5 .sent-i84 .ensures 5 refl))
-    (prints-field (bits-of w8 (a .c .motion .punch1) (f .1 .1 .1 .1 .0 .1) (p6 .sent-i85 .ensures 3 refl))
-    (prints-field (bits-of w8 (a .c .motion .velocity1) (f .1 .1 .1 .1 .1 .0 .1) (p7 .sent-i86 .ensures 6 refl))
-    (prints-field (bits-of w8 (a .c .motion .punch2) (f .1 .1 .1 .1 .1 .1 .0 .1) (p8 .sent-i87 .ensures 4 refl))
-    (prints-field (bits-of w8 (a .c .motion .velocity2) (f .1 .1 .1 .1 .1 .1 .1 .0 .1) (p9 .sent-i88 .ensures 7 refl))
+    (prints-field (bits-of w8 (a .c .motion .«view_height») (f .0 .1) (p2 .sent-i8 .ensures))
+    (prints-field (bits-of w8 (a .c .motion .pitch) (f .1 .0 .1) (p3 .sent-i82 .ensures))
+    (prints-field (bits-of w8 (a .c .motion .punch0) (f .1 .1 .0 .1) (p4 .sent-i83 .ensures))
+    (prints-field (bits-of w8 (a .c .motion .velocity0) (f .1 .1 .1 .0 .1) (p5 .sent-i84 .ensures))
+    (prints-field (bits-of w8 (a .c .motion .punch1) (f .1 .1 .1 .1 .0 .1) (p6 .sent-i85 .ensures))
+    (prints-field (bits-of w8 (a .c .motion .velocity1) (f .1 .1 .1 .1 .1 .0 .1) (p7 .sent-i86 .ensures))
+    (prints-field (bits-of w8 (a .c .motion .punch2) (f .1 .1 .1 .1 .1 .1 .0 .1) (p8 .sent-i87 .ensures))
+    (prints-field (bits-of w8 (a .c .motion .velocity2) (f .1 .1 .1 .1 .1 .1 .1 .0 .1) (p9 .sent-i88 .ensures))
     (prints-field (bits-of w32 (a .c .items) (g .1 .1 .0 .1) (p10 .from-i32 .ensures))
-    (prints-field (p11 .sent-u8 .ensures 12 refl)
-    (prints-field (p12 .sent-u82 .ensures 13 refl)
-    (prints-field (p13 .sent-u83 .ensures 14 refl)
+    (prints-field (p11 .sent-u8 .ensures)
+    (prints-field (p12 .sent-u82 .ensures)
+    (prints-field (p13 .sent-u83 .ensures)
     (prints-field (bits-of w16 (a .c .supplies .health) (h .0 .1) (p14 .from-i16 .ensures))
     (prints-field (p15 .from-u82 .ensures)
     (prints-field (p16 .from-u83 .ensures)

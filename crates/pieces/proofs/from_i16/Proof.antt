@@ -8,17 +8,8 @@ use Rattle.pieces.proofs.PrintLaws.{handed}
 use Rattle.pieces.proofs.from_i16.Statement.{statement}
 use Rattle.pieces.proofs.from_i16.Tie as tie
 
-unsigned16-requires : tie.Need-unsigned16-requires
-unsigned16-requires c κs = search needs
-
-cast-number : tie.Need-cast-number
-cast-number c = search needs
-
-number-requires : tie.Need-number-requires
-number-requires c κs = search needs
-
 returns : tie.Need-returns
 returns c = c .number .ensures ∙ ap (numberPiece 2) (handed w16 _ (c .before .before .fits .z) (c .before .unsigned16 .ensures))
 
 pub from-i16-spec : {M : Type 1} → statement M
-from-i16-spec = tie.close (tie.spec unsigned16-requires cast-number number-requires returns)
+from-i16-spec = tie.close (tie.spec (λ c κs. search needs) (λ c. search needs) (λ c κs. search needs) returns)

@@ -8,14 +8,8 @@ use Rattle.pieces.proofs.PrintLaws.{handed}
 use Rattle.pieces.proofs.from_i32.Statement.{statement}
 use Rattle.pieces.proofs.from_i32.Tie as tie
 
-unsigned32-requires : tie.Need-unsigned32-requires
-unsigned32-requires c κs = search needs
-
-number-requires : tie.Need-number-requires
-number-requires c κs = search needs
-
 returns : tie.Need-returns
 returns c = c .number .ensures ∙ ap (numberPiece 4) (handed w32 _ (c .before .before .fits .z) (c .before .unsigned32 .ensures))
 
 pub from-i32-spec : {M : Type 1} → statement M
-from-i32-spec = tie.close (tie.spec unsigned32-requires number-requires returns)
+from-i32-spec = tie.close (tie.spec (λ c κs. search needs) (λ c κs. search needs) returns)

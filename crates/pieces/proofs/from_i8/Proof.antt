@@ -8,14 +8,8 @@ use Rattle.pieces.proofs.PrintLaws.{handed}
 use Rattle.pieces.proofs.from_i8.Statement.{statement}
 use Rattle.pieces.proofs.from_i8.Tie as tie
 
-unsigned8-requires : tie.Need-unsigned8-requires
-unsigned8-requires c κs = search needs
-
-from-u8-requires : tie.Need-from-u8-requires
-from-u8-requires c κs = search needs
-
 returns : tie.Need-returns
 returns c = c .from-u8 .ensures ∙ ap (numberPiece 1) (handed w8 _ (c .before .before .fits .z) (c .before .unsigned8 .ensures))
 
 pub from-i8-spec : {M : Type 1} → statement M
-from-i8-spec = tie.close (tie.spec unsigned8-requires from-u8-requires returns)
+from-i8-spec = tie.close (tie.spec (λ c κs. search needs) (λ c κs. search needs) returns)

@@ -12,15 +12,15 @@ use Rattle.pieces.proofs.particle.Tie as tie
 
 returns : tie.Need-returns
 unfolding layout kindLayout print bytesOf
-returns c x t =
+returns c x t f =
     let p = c .before .before .before in
     let a = p .before .before .before .before .before .before .before .args .p in
-    let f = p .before .struct-told3 .given in
+    let g = p .before .struct-told3 .given in
     ap (bytesOf t) (c .behind-vector .ensures)
     ∙ rw (
-      handed w8 (a .direction0) (record { sfits = f .1 .0 .1 }) (p .before .before .before .before .unsigned8 .ensures),
-      handed w8 (a .direction1) (record { sfits = f .1 .1 .0 .1 }) (p .before .before .unsigned82 .ensures),
-      handed w8 (a .direction2) (record { sfits = f .1 .1 .1 .0 .1 }) (p .unsigned83 .ensures),
+      handed w8 (a .direction0) (record { sfits = g .1 .0 .1 }) (p .before .before .before .before .unsigned8 .ensures),
+      handed w8 (a .direction1) (record { sfits = g .1 .1 .0 .1 }) (p .before .before .unsigned82 .ensures),
+      handed w8 (a .direction2) (record { sfits = g .1 .1 .1 .0 .1 }) (p .unsigned83 .ensures),
     )
 
 pub particle-spec : {M : Type 1} → statement M

@@ -117,7 +117,7 @@ returns-15 c = arm (c .before .before .m13 .given .1) refl (λ x t f i a. c .cli
 -- Stopsound
 returns-16 : tie.Need-returns-16
 unfolding layout kindLayout print bytesOf
-returns-16 c = arm (c .before .before .before .m14 .given .1) (c .numbers8 .ensures) (λ x t f i a. refl)
+returns-16 c = arm (c .before .before .before .m14 .given .1) (c .numbers8 .ensures) (λ x t f i a. rw (c .before .source .ensures))
 
 -- Colours
 returns-17 : tie.Need-returns-17
@@ -126,7 +126,7 @@ returns-17 c = arm (c .before .before .before .m15 .given .1) (c .numbers9 .ensu
 
 -- Particle
 returns-18 : tie.Need-returns-18
-returns-18 c = arm (c .before .before .m16 .given .1) refl (λ x t f i a. c .particle .ensures x t)
+returns-18 c = arm (c .before .before .m16 .given .1) refl (λ x t f i a. c .particle .ensures x t f)
 
 -- Damage
 returns-19 : tie.Need-returns-19
@@ -258,10 +258,7 @@ pieces-of-spec =
     (λ c. search needs)
     (λ c κs. search needs)
     (λ c. search needs)
-    (λ c. search needs)
-    (λ c. search needs)
-    (λ c. search needs)
-    (λ c. search needs)
+    (λ c κs. search needs)
     (λ c κs. search needs)
     (λ c. search needs)
     (λ c. search needs)

@@ -1,8 +1,9 @@
 -- `pieces::sound` meets its contract: each piece has the bytes of its field.
 -- Assumes nothing.
-use mathlib.Core.Path.{refl}
+use mathlib.Core.Path.{ap, _∙_}
 use mir.Syntax.{w16}
 use Rattle.dem.specs.Message.{layout, kindLayout}
+use Rattle.pieces.specs.Bytes.{numberPiece}
 use Rattle.pieces.proofs.PrintLaws.{bits-of, prints-done, prints-field, prints-split}
 use borrow.Author.Needs.{needs}
 use Rattle.pieces.proofs.sound.Statement.{statement}
@@ -15,7 +16,7 @@ returns c x t =
     let p6 = p7 .before .before in
     let p5 = p6 .before .before in
     let p4 = p5 .before in
-    let p3 = p4 .before .before .before in
+    let p3 = p4 .before .before in
     let p2 = p3 .before in
     let p1 = p2 .before in
     let p0 = p1 .before in
@@ -23,9 +24,9 @@ returns c x t =
     let f = c .before .struct-told3 .given in
     (prints-field (p0 .from-u8 .ensures)
     (prints-field (p1 .from-u82 .ensures)
-    (prints-field (p2 .sent-u8 .ensures 0 refl)
-    (prints-field (p3 .sent-u82 .ensures 1 refl)
-    (prints-split (p4 .number2 .ensures)
+    (prints-field (p2 .sent-u8 .ensures)
+    (prints-field (p3 .sent-u82 .ensures)
+    (prints-split (p4 .number2 .ensures ∙ ap (numberPiece 2) (p4 .before .source .ensures))
     (prints-field (p5 .from-u83 .ensures)
     (prints-field (bits-of w16 (a .s .origin .x) (f .0 .1) (p6 .from-i16 .ensures))
     (prints-field (bits-of w16 (a .s .origin .y) (f .1 .0 .1) (p7 .from-i162 .ensures))
@@ -46,10 +47,7 @@ sound-spec =
     (λ c. search needs)
     (λ c κs. search needs)
     (λ c. search needs)
-    (λ c. search needs)
-    (λ c. search needs)
-    (λ c. search needs)
-    (λ c. search needs)
+    (λ c κs. search needs)
     (λ c κs. search needs)
     (λ c. search needs)
     (λ c κs. search needs)

@@ -6,7 +6,7 @@ use borrow.Author.Needs.{needs}
 use Rattle.format.specs.Floats.{notBefore}
 use Rattle.message.specs.declared.Time.{Time}
 use Rattle.message.specs.Values.{timeOf}
-use Rattle.plain.proofs.Rules.{time-early}
+use Rattle.wire.proofs.Rules.{not-from}
 use Rattle.plain.proofs.is_early.Statement.{statement}
 use Rattle.plain.proofs.is_early.Tie as tie
 
@@ -25,7 +25,7 @@ returns-2 : tie.Need-returns-2
 returns-2 c =
     let a = c .before .before .before .args in
     let t = c .before .latest .given in
-    time-early (t .0 .0) (a .bits) ∙ ap (λ (t : Time). not (notBefore (timeOf t) (a .bits))) (sym (t .1))
+    not-from (t .0 .0) (a .bits) ∙ ap (λ (t : Time). not (notBefore (timeOf t) (a .bits))) (sym (t .1))
 
 pub is-early-spec : {M : Type 1} → statement M
 is-early-spec = tie.close (tie.spec enum-told enum-known-latest returns returns-2)

@@ -10,7 +10,7 @@ use Rattle.format.specs.Bytes.{bit, bitOf}
 use Rattle.format.specs.Layout.{number}
 use Rattle.format.specs.Masked.{sentAlways}
 use Rattle.dem.specs.Message.{clientSlots}
-use Rattle.masked.proofs.MaskLaws.{bit-test}
+use Rattle.format.proofs.BitLaws.{bit-test}
 use Rattle.message.specs.Values.{motionValues, armsValues, suppliesValues}
 use Rattle.wire.proofs.SignedLaws.{same-bits}
 use Rattle.quick.specs.Spread.{behind, passed, suppliesSlots}

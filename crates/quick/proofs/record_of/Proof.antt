@@ -5,7 +5,7 @@ use Rattle.format.specs.Bytes.{bitOf}
 use Rattle.format.specs.Layout.{number}
 use Rattle.message.specs.Values.{poseValues}
 use Rattle.quick.specs.Spread.{lookOf}
-use Rattle.masked.proofs.MaskLaws.{bit-test}
+use Rattle.format.proofs.BitLaws.{bit-test}
 use Rattle.quick.proofs.record_of.Statement.{statement}
 use Rattle.quick.proofs.record_of.Tie as tie
 

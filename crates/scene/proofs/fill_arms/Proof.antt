@@ -1,6 +1,7 @@
 -- `scene::fill_arms` meets its contract, field by field.
 -- Assumes nothing.
 use mathlib.Core.List.{[], _∷_}
+use Rattle.format.specs.Bytes.{bit}
 use Rattle.scene.proofs.Filling.{picked}
 use borrow.Author.Needs.{needs}
 use Rattle.scene.proofs.fill_arms.Statement.{statement}
@@ -19,9 +20,9 @@ returns : tie.Need-returns
 returns c =
     let m = c .before .before .before .args .mask in
     let s = c .before .before .before .args .sent in
-    let frame = picked m 12 _ (s .«weapon_frame») 0 (c .before .before .pick .ensures) in
-    let armour = picked m 13 _ (s .armour) 0 (c .before .pick2 .ensures) in
-    let model = picked m 14 _ (s .«weapon_model») 0 (c .pick3 .ensures) in
+    let frame = picked (bit m 12) _ (s .«weapon_frame») 0 (c .before .before .pick .ensures) in
+    let armour = picked (bit m 13) _ (s .armour) 0 (c .before .pick2 .ensures) in
+    let model = picked (bit m 14) _ (s .«weapon_model») 0 (c .pick3 .ensures) in
     λ i. frame i ∷ armour i ∷ model i ∷ []
 
 pub fill-arms-spec : {M : Type 1} → statement M

@@ -8,7 +8,6 @@ use Rattle.format.specs.Bytes.{bitOf}
 use Rattle.format.specs.Layout.{number}
 use Rattle.message.specs.Values.{suppliesValues}
 use Rattle.wire.proofs.SignedLaws.{same-bits}
-use Rattle.scene.proofs.Filling.{flagged}
 use borrow.Author.Needs.{needs}
 use Rattle.scene.proofs.fill_client.Statement.{statement}
 use Rattle.scene.proofs.fill_client.Tie as tie
@@ -28,8 +27,8 @@ fill-arms-requires c κs = search needs
 returns : tie.Need-returns
 returns c =
     let s = c .before .before .before .before .before .before .args .c in
-    let ground = flagged (s .mask) 10 (c .before .before .before .before .before .has .ensures) in
-    let water = flagged (s .mask) 11 (c .before .before .before .before .has2 .ensures) in
+    let ground = c .before .before .before .before .before .has .ensures in
+    let water = c .before .before .before .before .has2 .ensures in
     let motion = c .before .before .before .fill-motion .ensures in
     let items = same-bits w32 (s .items) _ (record { sfits = c .struct-told .given .1 .1 .0 .1 }) refl in
     let arms = c .before .before .fill-arms .ensures in

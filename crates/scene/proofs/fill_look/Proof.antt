@@ -1,6 +1,7 @@
 -- `scene::fill_look` meets its contract, field by field.
 -- Assumes nothing.
 use mathlib.Core.List.{[], _∷_}
+use Rattle.format.specs.Bytes.{bit}
 use Rattle.scene.proofs.Filling.{picked}
 use borrow.Author.Needs.{needs}
 use Rattle.scene.proofs.fill_look.Statement.{statement}
@@ -23,10 +24,10 @@ returns c =
     let a = c .before .before .before .before .before .args in
     let sent = a .sent in
     let other = a .b .look in
-    let model = picked (a .high) 2 _ (sent .model) (other .model) (c .before .before .before .pick .ensures) in
-    let frame = picked (a .low) 6 _ (sent .frame) (other .frame) (c .before .before .pick2 .ensures) in
-    let colormap = picked (a .high) 3 _ (sent .colormap) (other .colormap) (c .before .pick3 .ensures) in
-    let skin = picked (a .high) 4 _ (sent .skin) (other .skin) (c .pick4 .ensures) in
+    let model = picked (bit (a .mask) 10) _ (sent .model) (other .model) (c .before .before .before .pick .ensures) in
+    let frame = picked (bit (a .mask) 6) _ (sent .frame) (other .frame) (c .before .before .pick2 .ensures) in
+    let colormap = picked (bit (a .mask) 11) _ (sent .colormap) (other .colormap) (c .before .pick3 .ensures) in
+    let skin = picked (bit (a .mask) 12) _ (sent .skin) (other .skin) (c .pick4 .ensures) in
     λ i. model i ∷ frame i ∷ colormap i ∷ skin i ∷ []
 
 pub fill-look-spec : {M : Type 1} → statement M

@@ -4,6 +4,7 @@ use mathlib.Core.List.{[], _∷_}
 use lib.Dec.{lit<}
 use lib.IntN.{pos}
 use mir.Syntax.{w8}
+use Rattle.format.specs.Bytes.{bit}
 use Rattle.scene.proofs.Filling.{signed-picked}
 use borrow.Author.Needs.{needs}
 use Rattle.scene.proofs.fill_motion.Statement.{statement}
@@ -46,14 +47,14 @@ returns c =
     let p5 = c .before .before .before .before .pick-char6 in
     let p6 = c .before .before .pick-char7 in
     let p7 = c .pick-char8 in
-    let e0 = signed-picked w8 m 0 (p0 .result) (s .«view_height») (pos 22) (p0 .ok) (f .0 .1) (lit< tt) (p0 .ensures) in
-    let e1 = signed-picked w8 m 1 (p1 .result) (s .pitch) (pos 0) (p1 .ok) (f .1 .0 .1) (lit< tt) (p1 .ensures) in
-    let e2 = signed-picked w8 m 2 (p2 .result) (s .punch0) (pos 0) (p2 .ok) (f .1 .1 .0 .1) (lit< tt) (p2 .ensures) in
-    let e3 = signed-picked w8 m 5 (p3 .result) (s .velocity0) (pos 0) (p3 .ok) (f .1 .1 .1 .0 .1) (lit< tt) (p3 .ensures) in
-    let e4 = signed-picked w8 m 3 (p4 .result) (s .punch1) (pos 0) (p4 .ok) (f .1 .1 .1 .1 .0 .1) (lit< tt) (p4 .ensures) in
-    let e5 = signed-picked w8 m 6 (p5 .result) (s .velocity1) (pos 0) (p5 .ok) (f .1 .1 .1 .1 .1 .0 .1) (lit< tt) (p5 .ensures) in
-    let e6 = signed-picked w8 m 4 (p6 .result) (s .punch2) (pos 0) (p6 .ok) (f .1 .1 .1 .1 .1 .1 .0 .1) (lit< tt) (p6 .ensures) in
-    let e7 = signed-picked w8 m 7 (p7 .result) (s .velocity2) (pos 0) (p7 .ok) (f .1 .1 .1 .1 .1 .1 .1 .0 .1) (lit< tt) (p7 .ensures) in
+    let e0 = signed-picked w8 (bit m 0) (p0 .result) (s .«view_height») (pos 22) (p0 .ok) (f .0 .1) (lit< tt) (p0 .ensures) in
+    let e1 = signed-picked w8 (bit m 1) (p1 .result) (s .pitch) (pos 0) (p1 .ok) (f .1 .0 .1) (lit< tt) (p1 .ensures) in
+    let e2 = signed-picked w8 (bit m 2) (p2 .result) (s .punch0) (pos 0) (p2 .ok) (f .1 .1 .0 .1) (lit< tt) (p2 .ensures) in
+    let e3 = signed-picked w8 (bit m 5) (p3 .result) (s .velocity0) (pos 0) (p3 .ok) (f .1 .1 .1 .0 .1) (lit< tt) (p3 .ensures) in
+    let e4 = signed-picked w8 (bit m 3) (p4 .result) (s .punch1) (pos 0) (p4 .ok) (f .1 .1 .1 .1 .0 .1) (lit< tt) (p4 .ensures) in
+    let e5 = signed-picked w8 (bit m 6) (p5 .result) (s .velocity1) (pos 0) (p5 .ok) (f .1 .1 .1 .1 .1 .0 .1) (lit< tt) (p5 .ensures) in
+    let e6 = signed-picked w8 (bit m 4) (p6 .result) (s .punch2) (pos 0) (p6 .ok) (f .1 .1 .1 .1 .1 .1 .0 .1) (lit< tt) (p6 .ensures) in
+    let e7 = signed-picked w8 (bit m 7) (p7 .result) (s .velocity2) (pos 0) (p7 .ok) (f .1 .1 .1 .1 .1 .1 .1 .0 .1) (lit< tt) (p7 .ensures) in
     λ i. e0 i ∷ e1 i ∷ e2 i ∷ e3 i ∷ e4 i ∷ e5 i ∷ e6 i ∷ e7 i ∷ []
 
 pub fill-motion-spec : {M : Type 1} → statement M

@@ -2,6 +2,7 @@
 -- Assumes nothing.
 use mathlib.Core.List.{[], _∷_}
 use mir.Syntax.{w8, w16}
+use Rattle.format.specs.Bytes.{bit}
 use Rattle.scene.proofs.Filling.{signed-picked}
 use borrow.Author.Needs.{needs}
 use Rattle.scene.proofs.fill_pose.Statement.{statement}
@@ -38,12 +39,12 @@ returns c =
     let angle1 = c .before .before .before .before .before .before .pick-char2 in
     let z = c .before .before .before .pick-short3 in
     let angle2 = c .pick-char3 in
-    let ex = signed-picked w16 (a .low) 1 (x .result) (s .x) (o .x) (x .ok) (fs .0 .1) (fo .0 .1) (x .ensures) in
-    let eangle0 = signed-picked w8 (a .high) 0 (angle0 .result) (s .angle0) (o .angle0) (angle0 .ok) (fs .1 .0 .1) (fo .1 .0 .1) (angle0 .ensures) in
-    let ey = signed-picked w16 (a .low) 2 (y .result) (s .y) (o .y) (y .ok) (fs .1 .1 .0 .1) (fo .1 .1 .0 .1) (y .ensures) in
-    let eangle1 = signed-picked w8 (a .low) 4 (angle1 .result) (s .angle1) (o .angle1) (angle1 .ok) (fs .1 .1 .1 .0 .1) (fo .1 .1 .1 .0 .1) (angle1 .ensures) in
-    let ez = signed-picked w16 (a .low) 3 (z .result) (s .z) (o .z) (z .ok) (fs .1 .1 .1 .1 .0 .1) (fo .1 .1 .1 .1 .0 .1) (z .ensures) in
-    let eangle2 = signed-picked w8 (a .high) 1 (angle2 .result) (s .angle2) (o .angle2) (angle2 .ok) (fs .1 .1 .1 .1 .1 .0 .1) (fo .1 .1 .1 .1 .1 .0 .1) (angle2 .ensures) in
+    let ex = signed-picked w16 (bit (a .mask) 1) (x .result) (s .x) (o .x) (x .ok) (fs .0 .1) (fo .0 .1) (x .ensures) in
+    let eangle0 = signed-picked w8 (bit (a .mask) 8) (angle0 .result) (s .angle0) (o .angle0) (angle0 .ok) (fs .1 .0 .1) (fo .1 .0 .1) (angle0 .ensures) in
+    let ey = signed-picked w16 (bit (a .mask) 2) (y .result) (s .y) (o .y) (y .ok) (fs .1 .1 .0 .1) (fo .1 .1 .0 .1) (y .ensures) in
+    let eangle1 = signed-picked w8 (bit (a .mask) 4) (angle1 .result) (s .angle1) (o .angle1) (angle1 .ok) (fs .1 .1 .1 .0 .1) (fo .1 .1 .1 .0 .1) (angle1 .ensures) in
+    let ez = signed-picked w16 (bit (a .mask) 3) (z .result) (s .z) (o .z) (z .ok) (fs .1 .1 .1 .1 .0 .1) (fo .1 .1 .1 .1 .0 .1) (z .ensures) in
+    let eangle2 = signed-picked w8 (bit (a .mask) 9) (angle2 .result) (s .angle2) (o .angle2) (angle2 .ok) (fs .1 .1 .1 .1 .1 .0 .1) (fo .1 .1 .1 .1 .1 .0 .1) (angle2 .ensures) in
     λ i. ex i ∷ eangle0 i ∷ ey i ∷ eangle1 i ∷ ez i ∷ eangle2 i ∷ []
 
 pub fill-pose-spec : {M : Type 1} → statement M

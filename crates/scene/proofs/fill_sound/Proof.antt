@@ -3,9 +3,11 @@
 use mathlib.Core.Path.{_≡_, _∙_}
 use mathlib.Core.List.{_∷_}
 use Rattle.dem.specs.Kind
+use Rattle.dem.specs.Limits.{defaultVolume, defaultAttenuation}
 use Rattle.format.specs.Layout.{number, tail}
 use Rattle.dem.specs.Message.{fillSound}
 use Rattle.message.specs.Values.{soundValues}
+use Rattle.format.specs.Bytes.{bit}
 use Rattle.scene.proofs.Filling.{picked}
 use borrow.Author.Needs.{needs}
 use Rattle.scene.proofs.fill_sound.Statement.{statement}
@@ -25,8 +27,8 @@ returns c =
     let s = c .before .before .before .before .before .args .s in
     let mask = c .before .before .before .before .widened in
     let vs = tail (soundValues s) in
-    let volume = picked (mask .result) 0 _ (s .volume) 255 (c .before .before .before .pick .ensures) in
-    let attenuation = picked (mask .result) 1 _ (s .attenuation) 64 (c .before .before .pick2 .ensures) in
+    let volume = picked (bit (mask .result) 0) _ (s .volume) defaultVolume (c .before .before .before .pick .ensures) in
+    let attenuation = picked (bit (mask .result) 1) _ (s .attenuation) defaultAttenuation (c .before .before .pick2 .ensures) in
     let filled : _ ≡ fillSound (number (mask .result) ∷ vs) = λ i. number Kind.sound ∷ volume i ∷ attenuation i ∷ tail (tail vs) in
     filled ∙ (λ i. fillSound (number (mask .ensures i) ∷ vs))
 

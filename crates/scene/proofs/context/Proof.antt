@@ -1,9 +1,9 @@
--- `blocks::context` meets its contract.
+-- `scene::context` meets its contract.
 -- Assumes nothing.
 use mathlib.Core.Path.{refl}
 use Rattle.scene.specs.Views.{sceneWith}
-use Rattle.blocks.proofs.context.Statement.{statement}
-use Rattle.blocks.proofs.context.Tie as tie
+use Rattle.scene.proofs.context.Statement.{statement}
+use Rattle.scene.proofs.context.Tie as tie
 
 returns : tie.Need-returns
 unfolding sceneWith

@@ -12,22 +12,22 @@ use Rattle.dem.proofs.CallLaws.{track-told}
 use Rattle.dem.proofs.NormalCallLaws.{normal-track-within}
 use Rattle.scene.specs.declared.Scene.{Scene}
 use Rattle.scene.specs.Views.{sceneOf}
-use Rattle.cobbrundle.specs.Replies.{trackAnswerOf, trackWrittenOf}
+use Rattle.dem_recordings.specs.Replies.{trackAnswerOf, trackWrittenOf}
 use Rattle.cobbrundle.specs.Calls.{Outcome, toEnd, toRefusal, ReadsMessage, MessageCall, MessageCalls, noMessage, messageRefused, nextMessage}
 use Rattle.cobbrundle.specs.Calls.{ReadsBlock, BlockCall, bytesOf, BlockCalls, noBlock, blockRefused, withinRefused, nextBlock}
 use Rattle.cobbrundle.specs.Calls.{RecordingCalls, trackRefused, behindTrack, WritesBlock, NormalCalls, noForm, formRefused, nextForm}
 use Rattle.cobbrundle.specs.Calls.{NormalRecordingCalls, lineRefused, behindLine}
-use Rattle.cobbrundle.specs.declared.MessageAnswer.{MessageAnswer}
-use Rattle.cobbrundle.specs.declared.MessageAnswer.the-variants as M
-use Rattle.cobbrundle.specs.declared.BlockAnswer.{BlockAnswer}
-use Rattle.cobbrundle.specs.declared.BlockAnswer.the-variants as B
-use Rattle.cobbrundle.specs.declared.Outline.{Outline}
-use Rattle.cobbrundle.specs.declared.TrackAnswer.{TrackAnswer}
-use Rattle.cobbrundle.specs.declared.TrackAnswer.the-variants as T
-use Rattle.cobbrundle.specs.declared.NormalAnswer.{NormalAnswer}
-use Rattle.cobbrundle.specs.declared.NormalAnswer.the-variants as N
-use Rattle.cobbrundle.specs.declared.TrackNormalAnswer.{TrackNormalAnswer}
-use Rattle.cobbrundle.specs.declared.TrackNormalAnswer.the-variants as L
+use Rattle.dem_messages.specs.declared.MessageAnswer.{MessageAnswer}
+use Rattle.dem_messages.specs.declared.MessageAnswer.the-variants as M
+use Rattle.dem_recordings.specs.declared.BlockAnswer.{BlockAnswer}
+use Rattle.dem_recordings.specs.declared.BlockAnswer.the-variants as B
+use Rattle.dem_recordings.specs.declared.Outline.{Outline}
+use Rattle.dem_recordings.specs.declared.TrackAnswer.{TrackAnswer}
+use Rattle.dem_recordings.specs.declared.TrackAnswer.the-variants as T
+use Rattle.dem_messages.specs.declared.NormalAnswer.{NormalAnswer}
+use Rattle.dem_messages.specs.declared.NormalAnswer.the-variants as N
+use Rattle.dem_recordings.specs.declared.TrackNormalAnswer.{TrackNormalAnswer}
+use Rattle.dem_recordings.specs.declared.TrackNormalAnswer.the-variants as L
 use Rattle.cobbrundle.proofs.ReadTheorem.{message-moves, inner-bytes, block-moves}
 use Rattle.cobbrundle.proofs.NormalTheorems.{wrote-one}
 

@@ -30,11 +30,11 @@ use Rattle.format.proofs.NormalCallLaws.{none-written, written-first, none-behi
 use Rattle.dem.proofs.NormalCallLaws.{NormalWritten, NormalUnwritten, normal-written, normal-unwritten, normal-track-within, normal-no-track}
 use Rattle.scene.specs.declared.Scene.{Scene as Held}
 use Rattle.scene.specs.Views.{sceneOf}
-use Rattle.cobbrundle.specs.Replies.{countOf, writtenOf}
+use Rattle.dem_messages.specs.Replies.{countOf, writtenOf}
 use Rattle.cobbrundle.specs.Calls.{Outcome, toEnd, toRefusal, WritesBlock, NormalCalls, noForm, formRefused, nextForm}
 use Rattle.cobbrundle.specs.Calls.{NormalRecordingCalls, lineRefused, behindLine}
-use Rattle.cobbrundle.specs.declared.WriteReply.{WriteReply}
-use Rattle.cobbrundle.specs.declared.NormalAnswer.the-variants as N
+use Rattle.dem_messages.specs.declared.WriteReply.{WriteReply}
+use Rattle.dem_messages.specs.declared.NormalAnswer.the-variants as N
 
 abbrev count-of : Written Scene ℕ → Answer ℕ
 count-of w = w .answer

@@ -40,19 +40,20 @@ use Rattle.dem.proofs.CallLaws.{reading-found, reading-refused, reading-no-trac
 use Rattle.scene.specs.declared.Scene.{Scene}
 use Rattle.scene.specs.Views.{baselineNumbers, recordNumbers, sceneWith, sceneOf}
 use Rattle.scene.proofs.Scene as SceneType
-use Rattle.cobbrundle.specs.Replies.{countOf, writtenOf, outlineOf}
+use Rattle.dem_messages.specs.Replies.{countOf, writtenOf}
+use Rattle.dem_recordings.specs.Replies.{outlineOf}
 use Rattle.cobbrundle.specs.Calls.{Outcome, toEnd, toRefusal, ReadsMessage, MessageCall, MessageCalls, noMessage, messageRefused, nextMessage}
 use Rattle.cobbrundle.specs.Calls.{ReadsBlock, BlockCall, bytesOf, BlockCalls, noBlock, blockRefused, withinRefused, nextBlock}
 use Rattle.cobbrundle.specs.Calls.{RecordingCalls, trackRefused, behindTrack, messageSent, messageOut, blockSent, blockOut, recordingOut}
 use Rattle.cobbrundle.specs.Calls.{Every, MessagesTile, BlocksTile}
-use Rattle.cobbrundle.specs.declared.MessageAnswer.the-variants as M
-use Rattle.cobbrundle.specs.declared.MessageReply.{MessageReply}
-use Rattle.cobbrundle.specs.declared.BlockAnswer.the-variants as B
-use Rattle.cobbrundle.specs.declared.TrackAnswer.{TrackAnswer}
-use Rattle.cobbrundle.specs.declared.TrackAnswer.the-variants as T
-use Rattle.cobbrundle.specs.declared.WriteReply.{WriteReply}
-use Rattle.cobbrundle.proofs.Messages.{FoundAt, found-reply-at}
-use Rattle.cobbrundle.proofs.Theorems.{written-back}
+use Rattle.dem_messages.specs.declared.MessageAnswer.the-variants as M
+use Rattle.dem_messages.specs.declared.MessageReply.{MessageReply}
+use Rattle.dem_recordings.specs.declared.BlockAnswer.the-variants as B
+use Rattle.dem_recordings.specs.declared.TrackAnswer.{TrackAnswer}
+use Rattle.dem_recordings.specs.declared.TrackAnswer.the-variants as T
+use Rattle.dem_messages.specs.declared.WriteReply.{WriteReply}
+use Rattle.dem_messages.proofs.Messages.{FoundAt, found-reply-at}
+use Rattle.dem_messages.proofs.Theorems.{written-back}
 
 -- ---- the statement
 

@@ -17,17 +17,18 @@ use Rattle.message.specs.Values.{valuesOf}
 use Rattle.scene.specs.declared.Scene.{Scene}
 use Rattle.scene.specs.declared.Filled.{Filled}
 use Rattle.scene.specs.Views.{sceneOf, filledBy}
-use Rattle.cobbrundle.specs.Replies.{replyOf, outlineOf, blockReplyOf, trackAnswerOf, normalReplyOf, trackWrittenOf}
-use Rattle.cobbrundle.specs.declared.MessageAnswer.{MessageAnswer}
-use Rattle.cobbrundle.specs.declared.MessageAnswer.the-variants as M
-use Rattle.cobbrundle.specs.declared.BlockAnswer.{BlockAnswer}
-use Rattle.cobbrundle.specs.declared.BlockAnswer.the-variants as B
-use Rattle.cobbrundle.specs.declared.Outline.{Outline}
-use Rattle.cobbrundle.specs.declared.TrackAnswer.{TrackAnswer}
-use Rattle.cobbrundle.specs.declared.TrackAnswer.the-variants as T
-use Rattle.cobbrundle.specs.declared.NormalAnswer.{NormalAnswer}
-use Rattle.cobbrundle.specs.declared.NormalAnswer.the-variants as N
-use Rattle.cobbrundle.specs.declared.TrackNormalAnswer.the-variants as L
+use Rattle.dem_messages.specs.Replies.{replyOf, normalReplyOf}
+use Rattle.dem_recordings.specs.Replies.{outlineOf, blockReplyOf, trackAnswerOf, trackWrittenOf}
+use Rattle.dem_messages.specs.declared.MessageAnswer.{MessageAnswer}
+use Rattle.dem_messages.specs.declared.MessageAnswer.the-variants as M
+use Rattle.dem_recordings.specs.declared.BlockAnswer.{BlockAnswer}
+use Rattle.dem_recordings.specs.declared.BlockAnswer.the-variants as B
+use Rattle.dem_recordings.specs.declared.Outline.{Outline}
+use Rattle.dem_recordings.specs.declared.TrackAnswer.{TrackAnswer}
+use Rattle.dem_recordings.specs.declared.TrackAnswer.the-variants as T
+use Rattle.dem_messages.specs.declared.NormalAnswer.{NormalAnswer}
+use Rattle.dem_messages.specs.declared.NormalAnswer.the-variants as N
+use Rattle.dem_recordings.specs.declared.TrackNormalAnswer.the-variants as L
 
 -- How such calls came out.
 pub data Outcome : Type 0 where

@@ -61,7 +61,7 @@ fn is_written(room: &[u8], len: usize) -> bool
 fn write_blocks(input: &mut [u8], output: &mut [u8], filled: Filled, from: usize)
     requires { ⌜ (from ≤ filled .len) × (filled .len ≤ length (now input)) ⌝ }
 {
-    let mut scene = cobbrundle::start();
+    let mut scene = dem_messages::start();
     let mut len = filled.len;
     let mut last = filled.ended;
     let mut start = from;

@@ -2,8 +2,8 @@
 ghost use mathlib.Core.Path.{_≡_};
 ghost use Rattle.dem.specs.Answer.{whole, wholeNormal};
 ghost use Rattle.exports.specs.Numbers.{checked, checkedBy, rewritten, rewrittenBy};
-use cobbrundle::RecordingAnswer;
-use cobbrundle::WriteAnswer;
+use dem_messages::WriteAnswer;
+use dem_recordings::RecordingAnswer;
 
 // Whether a recording is accepted: 0 and what it holds, or a refusal's number and its place.
 #[no_mangle]
@@ -16,7 +16,7 @@ pub extern "C" fn cobbrundle_check(
 ) -> u8
     ensures { λ r. ⌜ checked r (now (place .exit)) (now (track .exit)) (now (blocks .exit)) (now (messages .exit)) ≡ checkedBy (whole (now (bytes .entry)) .answer) ⌝ }
 {
-    let r = cobbrundle::read_recording(bytes);
+    let r = dem_recordings::read_recording(bytes);
     let answer = r.answer;
     *place = 0;
     *track = 0;
@@ -46,7 +46,7 @@ pub extern "C" fn cobbrundle_normalise(
 ) -> u8
     ensures { λ r. ⌜ rewritten r (now (place .exit)) (now (written .exit)) (now (room .exit)) ≡ rewrittenBy (wholeNormal (now (bytes .entry)) (now (room .entry))) ⌝ }
 {
-    let r = cobbrundle::normal_recording(bytes, room);
+    let r = dem_recordings::normal_recording(bytes, room);
     let answer = r.answer;
     *place = 0;
     *written = 0;

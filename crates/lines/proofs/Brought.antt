@@ -24,12 +24,12 @@ use Rattle.message.specs.Values.{valuesBy, valuesOf, updateValues}
 use Rattle.scene.specs.Views.{Numbered, sceneOf, filledBy}
 use Rattle.scene.specs.declared.Filled.{Filled}
 use Rattle.scene.specs.declared.Scene.{Scene as Held}
-use Rattle.cobbrundle.specs.Replies.{answerOf, replyOf}
-use Rattle.cobbrundle.specs.declared.MessageAnswer.{MessageAnswer}
-use Rattle.cobbrundle.specs.declared.MessageAnswer.the-variants.{Found, End, Refused}
-use Rattle.cobbrundle.specs.declared.MessageReply.{MessageReply}
-use Rattle.cobbrundle.proofs.Messages.{FoundAt, found-good, found-reply-at}
-use Rattle.cobbrundle.proofs.Writing.{allowed-numbered}
+use Rattle.dem_messages.specs.Replies.{answerOf, replyOf}
+use Rattle.dem_messages.specs.declared.MessageAnswer.{MessageAnswer}
+use Rattle.dem_messages.specs.declared.MessageAnswer.the-variants.{Found, End, Refused}
+use Rattle.dem_messages.specs.declared.MessageReply.{MessageReply}
+use Rattle.dem_messages.proofs.Messages.{FoundAt, found-good, found-reply-at}
+use Rattle.dem_messages.proofs.Writing.{allowed-numbered}
 use Rattle.lines.specs.declared.LineChange.{LineChange}
 use Rattle.lines.specs.Lent.{Lent, lent, changeLent, withLines, messageLent}
 use Rattle.lines.specs.Turns.{NumberedIn, linesAfter, Brings}

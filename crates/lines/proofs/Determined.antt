@@ -22,11 +22,11 @@ use Rattle.scene.specs.Views.{lineOf, sceneOf}
 use Rattle.scene.proofs.PlayerLine as LineType
 use Rattle.scene.proofs.Scene as SceneType
 use Rattle.scene.proofs.Back.{lines-fixed, scene-fixed}
-use Rattle.cobbrundle.specs.Replies.{replyOf}
-use Rattle.cobbrundle.specs.Replies.{answerOf as messageAnswerOf}
-use Rattle.cobbrundle.specs.declared.MessageReply.{MessageReply}
-use Rattle.cobbrundle.proofs.MessageReply as MessageType
-use Rattle.cobbrundle.proofs.FoundBack.{answer-determined}
+use Rattle.dem_messages.specs.Replies.{replyOf}
+use Rattle.dem_messages.specs.Replies.{answerOf as messageAnswerOf}
+use Rattle.dem_messages.specs.declared.MessageReply.{MessageReply}
+use Rattle.dem_messages.proofs.MessageReply as MessageType
+use Rattle.dem_messages.proofs.FoundBack.{answer-determined}
 use Rattle.lines.specs.Lent.{Lent, lent, answerOf, changedLines, playerOf, changeLent, withLines, messageLent}
 use Rattle.lines.specs.declared.LineChange.{LineChange}
 use Rattle.lines.specs.declared.LinesAnswer.{LinesAnswer}

@@ -14,8 +14,8 @@ use Rattle.wire.specs.declared.Text.{Text}
 use Rattle.message.specs.Values.{valuesBy}
 use Rattle.scene.specs.Views.{Numbered}
 use Rattle.scene.specs.declared.PlayerLine.{PlayerLine}
-use Rattle.cobbrundle.specs.declared.MessageAnswer.{MessageAnswer}
-use Rattle.cobbrundle.specs.declared.MessageAnswer.the-variants.{Found, End, Refused}
+use Rattle.dem_messages.specs.declared.MessageAnswer.{MessageAnswer}
+use Rattle.dem_messages.specs.declared.MessageAnswer.the-variants.{Found, End, Refused}
 use Rattle.lines.specs.Lent.{changedLines}
 use Rattle.lines.specs.declared.Plan.{Plan}
 use Rattle.lines.specs.declared.LineChange.{LineChange}

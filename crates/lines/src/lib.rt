@@ -8,12 +8,15 @@ ghost use Rattle.dem.specs.Message.{apply, fill};
 ghost use Rattle.wire.specs.declared.Text.{Text};
 ghost use Rattle.message.specs.Values.{valuesBy};
 ghost use Rattle.scene.specs.Views.{lineOf, sceneOf, Numbered};
-ghost use Rattle.cobbrundle.specs.Replies.{replyOf};
+ghost use Rattle.dem_messages.specs.Replies.{replyOf};
 ghost use Rattle.lines.specs.declared.LineChange.{LineChange};
 ghost use Rattle.lines.specs.Lent.{lent, answerOf, changedLines, changeLent, withLines, messageLent};
 ghost use Rattle.lines.specs.Turns.{refusedPlan, linePlan, planOf, changedLine, Brings};
-use cobbrundle::MessageAnswer;
-use cobbrundle::MessageReply;
+use dem::limit::PLAYER_COUNT;
+use dem_messages::MessageAnswer;
+use dem_messages::MessageReply;
+use format::refusal::WRONG_NUMBER;
+use format::refusal::WRONG_SCENE;
 use message::Message;
 use message::Player;
 use scene::PlayerLine;
@@ -40,8 +43,6 @@ pub struct Plan {
     pub end: usize,
 }
 
-const LINE_COUNT: usize = 16;
-
 fn refused(refusal: u8) -> Plan
     ensures { λ r. ⌜ r ≡ refusedPlan refusal ⌝ }
 {
@@ -56,14 +57,14 @@ fn one_line(player: Player) -> Plan
     ensures { λ r. ⌜ r ≡ linePlan (player .0) ⌝ }
 {
     let first = player.0 as usize;
-    if first < LINE_COUNT {
+    if first < PLAYER_COUNT {
         return Plan {
             answer: LinesAnswer::Changed,
             first,
             end: first + 1,
         };
     }
-    refused(9)
+    refused(WRONG_NUMBER)
 }
 
 // What a change is answered where so many lines are lent. This and `changed_line` are what `change_lines` is made of, for callers that keep
@@ -71,8 +72,8 @@ fn one_line(player: Player) -> Plan
 pub fn plan_of(count: usize, change: LineChange) -> Plan
     ensures { λ r. ⌜ r ≡ planOf count change ⌝ }
 {
-    if count != LINE_COUNT {
-        return refused(14);
+    if count != PLAYER_COUNT {
+        return refused(WRONG_SCENE);
     }
     match change {
         LineChange::Nothing => Plan {
@@ -85,7 +86,7 @@ pub fn plan_of(count: usize, change: LineChange) -> Plan
         LineChange::Clear => Plan {
             answer: LinesAnswer::Changed,
             first: 0,
-            end: LINE_COUNT,
+            end: PLAYER_COUNT,
         },
     }
 }
@@ -150,7 +151,7 @@ fn change_by(reply: MessageReply) -> LineChange
     }
 }
 
-fn with_lines(scene: Scene, lines: [PlayerLine; 16]) -> Scene
+fn with_lines(scene: Scene, lines: [PlayerLine; PLAYER_COUNT]) -> Scene
     ensures { λ r. ⌜ sceneOf r ≡ withLines (map lineOf lines) (sceneOf scene) ⌝ }
 {
     let mut changed = scene;
@@ -164,15 +165,15 @@ fn with_lines(scene: Scene, lines: [PlayerLine; 16]) -> Scene
 fn reply_at(scene: Scene, bytes: &[u8], at: usize, count: usize) -> MessageReply
     ensures { λ r. ⌜ ((c : LineChange) → Brings c (r .answer) → (lines : List Line) → length lines ≡ count → lent (replyOf (now (bytes .entry)) r) (changeLent c lines .lines) ≡ messageLent (sceneOf scene) lines (now (bytes .entry)) at) ⌝ }
 {
-    if count != LINE_COUNT {
+    if count != PLAYER_COUNT {
         return MessageReply {
-            answer: MessageAnswer::Refused(14, 0),
+            answer: MessageAnswer::Refused(WRONG_SCENE, 0),
             scene,
         };
     }
     let rest = scene.rest;
     let own = rest.players;
-    let found = cobbrundle::read_message_at(scene, bytes, at);
+    let found = dem_messages::read_message_at(scene, bytes, at);
     let answer = found.answer;
     let after = found.scene;
     MessageReply {

@@ -10,7 +10,7 @@ ghost use Rattle.speed.specs.Coordinates.{xOf};
 pub extern "C" fn speed_x(bytes: &[u8], entity: u8) -> i16
     ensures { λ r. ⌜ ofZ w16 r ≡ xOf (whole (now (bytes .entry)) .scene) entity ⌝ }
 {
-    let r = cobbrundle::read_recording(bytes);
+    let r = dem_recordings::read_recording(bytes);
     let scene = r.scene;
     let i = entity as usize;
     if scene.present[i] {

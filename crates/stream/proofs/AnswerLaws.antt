@@ -18,13 +18,13 @@ use Rattle.dem.specs.Recording.{Block, blocks, normalBlock}
 use Rattle.dem.specs.Answer.{rewritingOf, normalBlocksAt, trackNormalOf, trackNormal}
 use Rattle.format.proofs.WrittenLaws.{written-fits}
 use Rattle.scene.specs.Views.{sceneOf}
-use Rattle.cobbrundle.specs.Replies.{rewriteAnswerOf, rewriteReplyOf, trackCountOf, trackWrittenOf}
-use Rattle.cobbrundle.specs.declared.Rewriting.{Rewriting}
-use Rattle.cobbrundle.specs.declared.RewriteAnswer.{RewriteAnswer}
-use Rattle.cobbrundle.specs.declared.RewriteAnswer.the-variants as N
-use Rattle.cobbrundle.specs.declared.RewriteReply.{RewriteReply}
-use Rattle.cobbrundle.specs.declared.TrackNormalAnswer.{TrackNormalAnswer}
-use Rattle.cobbrundle.specs.declared.TrackNormalAnswer.the-variants as T
+use Rattle.dem_recordings.specs.Replies.{rewriteAnswerOf, rewriteReplyOf, trackCountOf, trackWrittenOf}
+use Rattle.dem_recordings.specs.declared.Rewriting.{Rewriting}
+use Rattle.dem_recordings.specs.declared.RewriteAnswer.{RewriteAnswer}
+use Rattle.dem_recordings.specs.declared.RewriteAnswer.the-variants as N
+use Rattle.dem_recordings.specs.declared.RewriteReply.{RewriteReply}
+use Rattle.dem_recordings.specs.declared.TrackNormalAnswer.{TrackNormalAnswer}
+use Rattle.dem_recordings.specs.declared.TrackNormalAnswer.the-variants as T
 use Rattle.stream.specs.Pieces.{Told, Piece, unused, standing, refusalPlace, toldOf, pieceOf, pieceAt, longestLine, lineTold, lineOf, firstLine}
 use Rattle.stream.specs.Views.{pieceView}
 

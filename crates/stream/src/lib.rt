@@ -7,8 +7,11 @@ ghost use Rattle.scene.specs.Views.{sceneOf};
 ghost use Rattle.stream.specs.Pieces.{placeBehind, refusalPlace, pieceAt, firstLine, between};
 ghost use Rattle.stream.specs.Pieces.{standing as Pieces·standing};
 ghost use Rattle.stream.specs.Views.{pieceView, lineView};
-use cobbrundle::RewriteAnswer;
-use cobbrundle::TrackNormalAnswer;
+use dem::limit::LONGEST_TRACK_LINE;
+use dem_recordings::RewriteAnswer;
+use dem_recordings::TrackNormalAnswer;
+use format::refusal::CUT_BLOCK;
+use format::refusal::SHORT_ROOM;
 use scene::Scene;
 
 const GREATEST: usize = 18446744073709551615;
@@ -27,7 +30,7 @@ pub fn place_behind(before: usize, place: usize) -> usize
 fn standing(last: bool, refusal: u8) -> u8
     ensures { λ r. ⌜ r ≡ Pieces·standing last refusal ⌝ }
 {
-    if !last & (refusal == 2) {
+    if !last & (refusal == CUT_BLOCK) {
         return 0;
     }
     refusal
@@ -37,7 +40,7 @@ fn standing(last: bool, refusal: u8) -> u8
 fn refusal_place(before: usize, refusal: u8, place: usize) -> usize
     ensures { λ r. ⌜ r ≡ refusalPlace before refusal place ⌝ }
 {
-    if refusal == 12 {
+    if refusal == SHORT_ROOM {
         return place;
     }
     place_behind(before, place)
@@ -59,7 +62,7 @@ pub fn normal_piece(scene: Scene, bytes: &[u8], last: bool, before: usize, room:
     ensures { λ r. ⌜ pieceView r (now (room .exit)) ≡ pieceAt (sceneOf scene) (now (bytes .entry)) last before (now (room .entry)) ⌝ }
     ensures within { λ r. ⌜ (r .used ≤ length (now (bytes .entry))) × (r .written ≤ length (now (room .entry))) ⌝ }
 {
-    let reply = cobbrundle::normal_blocks_at(scene, bytes, 0, room);
+    let reply = dem_recordings::normal_blocks_at(scene, bytes, 0, room);
     let answer = reply.answer;
     let after = reply.scene;
     match answer {
@@ -98,7 +101,7 @@ pub fn first_line(bytes: &[u8], last: bool, room: &mut [u8]) -> FirstLine
     ensures { λ r. ⌜ lineView r (now (room .exit)) ≡ firstLine (now (bytes .entry)) last (now (room .entry)) ⌝ }
     ensures within { λ r. ⌜ (r .used ≤ length (now (bytes .entry))) × (r .written ≤ length (now (room .entry))) ⌝ }
 {
-    if !last & (bytes.len() < 5) {
+    if !last & (bytes.len() < LONGEST_TRACK_LINE) {
         return FirstLine {
             used: 0,
             written: 0,
@@ -106,7 +109,7 @@ pub fn first_line(bytes: &[u8], last: bool, room: &mut [u8]) -> FirstLine
             place: 0,
         };
     }
-    let answer = cobbrundle::normal_track(bytes, room);
+    let answer = dem_recordings::normal_track(bytes, room);
     match answer {
         TrackNormalAnswer::Written(written, next) => FirstLine {
             used: next,

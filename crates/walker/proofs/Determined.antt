@@ -16,10 +16,10 @@ use Rattle.scene.specs.declared.Scene.{Scene}
 use Rattle.scene.specs.Views.{sceneOf}
 use Rattle.scene.proofs.Scene as SceneType
 use Rattle.scene.proofs.Back.{scene-fixed}
-use Rattle.cobbrundle.specs.Replies.{replyOf}
-use Rattle.cobbrundle.specs.declared.MessageReply.{MessageReply}
-use Rattle.cobbrundle.proofs.MessageReply as MessageType
-use Rattle.cobbrundle.proofs.Determined.{message-determined}
+use Rattle.dem_messages.specs.Replies.{replyOf}
+use Rattle.dem_messages.specs.declared.MessageReply.{MessageReply}
+use Rattle.dem_messages.proofs.MessageReply as MessageType
+use Rattle.dem_messages.proofs.Determined.{message-determined}
 use Rattle.walker.specs.declared.Walked.{Walked}
 use Rattle.walker.specs.Walks.{Stepped, stepped, stepAt, walk, walkFrom, walkAll, walkedOf}
 use Rattle.walker.proofs.Walked as WalkedType

@@ -30,11 +30,11 @@ use Rattle.message.specs.Values.{valuesOf}
 use Rattle.scene.specs.Views.{sceneOf, filledBy}
 use Rattle.scene.specs.declared.Filled.{Filled}
 use Rattle.scene.specs.declared.Scene.{Scene as Held}
-use Rattle.cobbrundle.specs.Replies.{answerOf, replyOf}
-use Rattle.cobbrundle.specs.declared.MessageAnswer.{MessageAnswer}
-use Rattle.cobbrundle.specs.declared.MessageAnswer.the-variants.{Found, End, Refused}
-use Rattle.cobbrundle.specs.declared.MessageReply.{MessageReply}
-use Rattle.cobbrundle.proofs.Messages.{FoundAt, found-good, found-next, found-reply-at}
+use Rattle.dem_messages.specs.Replies.{answerOf, replyOf}
+use Rattle.dem_messages.specs.declared.MessageAnswer.{MessageAnswer}
+use Rattle.dem_messages.specs.declared.MessageAnswer.the-variants.{Found, End, Refused}
+use Rattle.dem_messages.specs.declared.MessageReply.{MessageReply}
+use Rattle.dem_messages.proofs.Messages.{FoundAt, found-good, found-next, found-reply-at}
 use Rattle.walker.specs.Walks.{movedTo, placeAfter, stepped, stepAt, walk, walkFrom, walkAll}
 
 abbrev R : Type 0

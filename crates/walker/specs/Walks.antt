@@ -12,8 +12,8 @@ use Rattle.format.specs.Answer.{placeIn, Answer, result, atEnd, refusal, Item, 
 use Rattle.dem.specs.Recording.{messages}
 use Rattle.dem.specs.Answer.{messageAt}
 use Rattle.scene.specs.Views.{sceneOf}
-use Rattle.cobbrundle.specs.declared.MessageAnswer.{MessageAnswer}
-use Rattle.cobbrundle.specs.declared.MessageAnswer.the-variants.{Found, End, Refused}
+use Rattle.dem_messages.specs.declared.MessageAnswer.{MessageAnswer}
+use Rattle.dem_messages.specs.declared.MessageAnswer.the-variants.{Found, End, Refused}
 use Rattle.walker.specs.declared.Walked.{Walked}
 
 -- ---- one step

@@ -1,10 +1,10 @@
 // A walker over a block's messages: it holds the block's bytes and the place of the next message.
 ghost use mathlib.Core.Path.{_≡_};
 ghost use Rattle.scene.specs.Views.{sceneOf};
-ghost use Rattle.cobbrundle.specs.Replies.{replyOf};
+ghost use Rattle.dem_messages.specs.Replies.{replyOf};
 ghost use Rattle.walker.specs.Walks.{placeAfter, stepped, stepAt, walkedOf, walkAll};
-use cobbrundle::MessageAnswer;
-use cobbrundle::MessageReply;
+use dem_messages::MessageAnswer;
+use dem_messages::MessageReply;
 use scene::Scene;
 
 pub struct Walker<'a> {
@@ -36,7 +36,7 @@ pub fn next<'s, 'a>(w: &'s mut Walker<'a>, scene: Scene) -> MessageReply
     ensures { λ r. ⌜ (stepped (replyOf (now (now (w .entry) .block)) r) (now (w .exit) .at) ≡ stepAt (sceneOf scene) (now (now (w .entry) .block)) (now (w .entry) .at)) × (now (w .exit) .block ≡ now (w .entry) .block) ⌝ }
 {
     let at = w.at;
-    let reply = cobbrundle::read_message_at(scene, w.block, at);
+    let reply = dem_messages::read_message_at(scene, w.block, at);
     w.at = moved_to(at, reply);
     reply
 }
@@ -58,7 +58,7 @@ pub fn read_all(block: &[u8], scene: Scene) -> Walked
     let mut at = 0;
     let mut messages = 0;
     loop {
-        let reply = cobbrundle::read_message_at(current, block, at);
+        let reply = dem_messages::read_message_at(current, block, at);
         let answer = reply.answer;
         match answer {
             MessageAnswer::Found(_, _, next) => {

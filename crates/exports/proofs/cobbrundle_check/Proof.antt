@@ -8,8 +8,8 @@ use borrow.Author.Needs.{needs}
 use Rattle.dem.specs.Scene.{Scene}
 use Rattle.format.specs.Answer.{Reply}
 use Rattle.dem.specs.Answer.{Summary, whole}
-use Rattle.cobbrundle.specs.Replies.{recordingAnswerOf}
-use Rattle.cobbrundle.specs.declared.RecordingAnswer.{RecordingAnswer}
+use Rattle.dem_recordings.specs.Replies.{recordingAnswerOf}
+use Rattle.dem_recordings.specs.declared.RecordingAnswer.{RecordingAnswer}
 use Rattle.exports.specs.Numbers.{checked, checkedBy}
 use Rattle.exports.proofs.cobbrundle_check.Statement.{statement}
 use Rattle.exports.proofs.cobbrundle_check.Tie as tie

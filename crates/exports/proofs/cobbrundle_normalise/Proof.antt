@@ -3,8 +3,8 @@
 use mathlib.Core.Path.{_≡_, sym, ap, _∙_}
 use borrow.Author.Needs.{needs}
 use Rattle.dem.specs.Answer.{wholeNormal}
-use Rattle.cobbrundle.specs.Replies.{countOf}
-use Rattle.cobbrundle.specs.declared.WriteAnswer.{WriteAnswer}
+use Rattle.dem_messages.specs.Replies.{countOf}
+use Rattle.dem_messages.specs.declared.WriteAnswer.{WriteAnswer}
 use Rattle.exports.specs.Numbers.{rewrittenWith, rewrittenBy}
 use Rattle.exports.proofs.cobbrundle_normalise.Statement.{statement}
 use Rattle.exports.proofs.cobbrundle_normalise.Tie as tie

@@ -2,7 +2,7 @@
 -- Assumes nothing.
 use Prim.Native.Nat.{zero-le}
 use borrow.Author.Needs.{needs}
-use Rattle.cobbrundle.specs.declared.TrackNormalAnswer.the-variants.{Written, Refused}
+use Rattle.dem_recordings.specs.declared.TrackNormalAnswer.the-variants.{Written, Refused}
 use Rattle.stream.proofs.AnswerLaws.{line-undecided, line-told, line-within, told-within}
 use Rattle.stream.proofs.first_line.Statement.{statement}
 use Rattle.stream.proofs.first_line.Tie as tie

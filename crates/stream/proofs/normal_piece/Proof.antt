@@ -2,7 +2,7 @@
 -- Assumes nothing.
 use Prim.Native.Nat.{zero-le}
 use borrow.Author.Needs.{needs}
-use Rattle.cobbrundle.specs.declared.RewriteAnswer.the-variants.{Refused}
+use Rattle.dem_recordings.specs.declared.RewriteAnswer.the-variants.{Refused}
 use Rattle.scene.specs.Views.{sceneOf}
 use Rattle.stream.proofs.AnswerLaws.{piece-told, piece-written, piece-within, told-within}
 use Rattle.stream.proofs.normal_piece.Statement.{statement}

@@ -49,20 +49,20 @@ use Rattle.scene.specs.Views.{sceneOf}
 use Rattle.scene.specs.declared.Scene.{Scene}
 use Rattle.scene.proofs.Scene as S
 use Rattle.scene.proofs.Scene.Laws as S′
-use Rattle.cobbrundle.proofs.MessageReply as Y
-use Rattle.cobbrundle.proofs.MessageReply.Laws as Y′
+use Rattle.dem_messages.proofs.MessageReply as Y
+use Rattle.dem_messages.proofs.MessageReply.Laws as Y′
 use Rattle.dem.specs.Answer.{messageAt}
-use Rattle.cobbrundle.specs.Replies.{replyOf}
-use Rattle.cobbrundle.specs.declared.MessageReply.{MessageReply}
+use Rattle.dem_messages.specs.Replies.{replyOf}
+use Rattle.dem_messages.specs.declared.MessageReply.{MessageReply}
 use Rattle.walker.specs.Walks.{placeAfter}
 use Rattle.walker.specs.declared.Walker.{Walker}
 use Rattle.walker.proofs.Walking.{step-is}
 use Rattle.walker.proofs.Walker as T
 use Rattle.walker.proofs.Walker.Laws as T′
-use Rattle.cobbrundle.proofs.read_message_at as read
-use Rattle.cobbrundle.proofs.read_message_at.Symbol as read-def
-use Rattle.cobbrundle.proofs.read_message_at.Symbol.{name as #cobbrundle·read-message-at}
-use Rattle.cobbrundle.proofs.read_message_at.Met as read-thm
+use Rattle.dem_messages.proofs.read_message_at as read
+use Rattle.dem_messages.proofs.read_message_at.Symbol as read-def
+use Rattle.dem_messages.proofs.read_message_at.Symbol.{name as #dem-messages·read-message-at}
+use Rattle.dem_messages.proofs.read_message_at.Met as read-thm
 use Rattle.walker.proofs.moved_to as moved
 use Rattle.walker.proofs.moved_to.Symbol as moved-def
 use Rattle.walker.proofs.moved_to.Symbol.{name as #walker·moved-to}
@@ -203,7 +203,7 @@ module _ {M : Type 1} (𝓤 : URA M) (H : Heap 𝓤) (A : Atoms 𝓤) (W : Given
           suffices ! _ (ends-at 𝓤 H A next.ended stayed (next.clauses 𝓤 H A at-mem run) W (((κ, (κ′, tt)), (q, (q′, tt)), bounds, a, vals), tt) w r (h′, (tt, tt)) (tt, (tt, tt))) $ says ! (step-is (sceneOf scene) (now (h .block)) (h .at) r e n f, refl) $
           move ! (2 ∷ 5 ∷ []) $ join ! $ frame ! $ feqI ! (List Val) (vptr b o ∷ []) (vptr b o ∷ []) refl $ fjoin3 ! $ nothing ! $ move ! (2 ∷ 0 ∷ []) $ fjoin ! $ move ! (1 ∷ 0 ∷ []) $ fjoin ! $ frame ! $ done !
 
-  module _ (C : Calls 𝓤 H) (Λ : Loops 𝓤 H) (fm : FmC 𝓤 H (W .laws) C) (known-read : Triple 𝓤 (C #cobbrundle·read-message-at) (ReadAt 𝓤 H A at-mem run)) (known-moved : Triple 𝓤 (C #walker·moved-to) (MovedTo 𝓤 H A at-mem run)) where
+  module _ (C : Calls 𝓤 H) (Λ : Loops 𝓤 H) (fm : FmC 𝓤 H (W .laws) C) (known-read : Triple 𝓤 (C #dem-messages·read-message-at) (ReadAt 𝓤 H A at-mem run)) (known-moved : Triple 𝓤 (C #walker·moved-to) (MovedTo 𝓤 H A at-mem run)) where
     walk : Is S.the-row scene (u ∷ []) → ent 𝓤 (onEntry 𝓤 H A next.signature (κ, (κ′, tt)) (q, (q′, tt)) a vals) (WpFn 𝓤 H C Λ code.function (vptr b o ∷ u ∷ []) Post)
     walk g =
         qed W ((‵ (flft κ q) ⊛ ‵ (flft κ′ q′) ⊛ ‵ ftrue) ∷ ‵ (owns (MutRef (named 0) κ R ∷ S.the-row ∷ []) a vals) ∷ []) ∵ enter ! C Λ code.function (vptr b o ∷ u ∷ []) _ $
@@ -239,13 +239,13 @@ module _ {M : Type 1} (𝓤 : URA M) (H : Heap 𝓤) (A : Atoms 𝓤) (W : Given
         by ! (exits r w n e f))))))))))))))))))
 
 module _ {M : Type 1} (𝓤 : URA M) (H : Heap 𝓤) (A : Atoms 𝓤) (W : Given 𝓤 H A) (mem : Memory → SProp 𝓤) (run : Routine → Fun 𝓤) where
-  next-walks : (C : Calls 𝓤 H) (Λ : Loops 𝓤 H) → FmC 𝓤 H (W .laws) C → Triple 𝓤 (C #cobbrundle·read-message-at) (ReadAt 𝓤 H A mem run) → Triple 𝓤 (C #walker·moved-to) (MovedTo 𝓤 H A mem run)
+  next-walks : (C : Calls 𝓤 H) (Λ : Loops 𝓤 H) → FmC 𝓤 H (W .laws) C → Triple 𝓤 (C #dem-messages·read-message-at) (ReadAt 𝓤 H A mem run) → Triple 𝓤 (C #walker·moved-to) (MovedTo 𝓤 H A mem run)
       → Walks 𝓤 H A next.ended stayed (WpFn 𝓤 H C Λ code.function) (next.clauses 𝓤 H A mem run)
   next-walks C Λ fm known-read known-moved = walked 𝓤 H A next.ended stayed (next.clauses 𝓤 H A mem run) (WpFn 𝓤 H C Λ code.function) (λ κs. (ptr-vals, (LL.vals S.the-type S′.the-laws, tt))) (λ κs. (mut-tells (named 0) (κs .0) (T.the-row (namedLft 2 1 tt κs)), (LL.tells S.the-type S′.the-laws, tt)))
       (λ κs qs bounds a g are. via 𝓤 _ (fst∗ 𝓤 _ (emp 𝓤)) (walk 𝓤 H A W mem run (κs .0) (κs .1 .0) (qs .0) (qs .1 .0) bounds (a .0 .ptr .0) (a .0 .ptr .1) (a .0 .name) (a .0 .now) (a .1 .0) C Λ fm known-read known-moved (are .1 .0)))
 
 next-meets : {M : Type 1} (𝓤 : URA M) (H : Heap 𝓤) (A : Atoms 𝓤) → Given 𝓤 H A → (mem : Memory → SProp 𝓤) (run : Routine → Fun 𝓤) (𝓣 : Tables 𝓤 H)
-    → Triple 𝓤 (𝓣 .C #cobbrundle·read-message-at) (ReadAt 𝓤 H A mem run) → Triple 𝓤 (𝓣 .C #walker·moved-to) (MovedTo 𝓤 H A mem run)
+    → Triple 𝓤 (𝓣 .C #dem-messages·read-message-at) (ReadAt 𝓤 H A mem run) → Triple 𝓤 (𝓣 .C #walker·moved-to) (MovedTo 𝓤 H A mem run)
     → Meets 𝓤 H A next.signature (WpFn 𝓤 H (𝓣 .C) (𝓣 .Λ) code.function) (next.spec 𝓤 H A mem run)
 next-meets 𝓤 H A W mem run 𝓣 known-read known-moved =
     walk-meets 𝓤 H A next.ended stayed W (goes-ref 𝓤 H A W 2 0 tt behind, (goes-none 𝓤 H A W 2 (λ _. S.the-row) yes (λ κs x f. refl), tt)) (next.clauses 𝓤 H A mem run)
@@ -257,5 +257,5 @@ next-spec 𝓤 H 𝓜 𝓖 𝓡 =
     entered 𝓤 H (tripleOf 𝓤 H (𝓖 .A) next.signature (next.spec 𝓤 H (𝓖 .A) (𝓜 .mem) (𝓡 .run)))
     (tables 𝓤 H 𝓜 𝓡 code.env .C) (tables 𝓤 H 𝓜 𝓡 code.env .Λ) #walker·next code.function (code.unfolded 𝓤 H 𝓜 𝓡)
     (next-meets 𝓤 H (𝓖 .A) (givenOf 𝓤 H 𝓜 𝓖) (𝓜 .mem) (𝓡 .run) (tablesOf 𝓤 H 𝓜 (tables 𝓤 H 𝓜 𝓡 code.env))
-    (cited 𝓤 H (ReadAt 𝓤 H (𝓖 .A) (𝓜 .mem) (𝓡 .run)) 𝓜 𝓡 code.env #cobbrundle·read-message-at read-def.routine code.calls-cobbrundle·read-message-at (read-thm.met 𝓤 H 𝓜 𝓖 𝓡))
+    (cited 𝓤 H (ReadAt 𝓤 H (𝓖 .A) (𝓜 .mem) (𝓡 .run)) 𝓜 𝓡 code.env #dem-messages·read-message-at read-def.routine code.calls-dem-messages·read-message-at (read-thm.met 𝓤 H 𝓜 𝓖 𝓡))
     (cited 𝓤 H (MovedTo 𝓤 H (𝓖 .A) (𝓜 .mem) (𝓡 .run)) 𝓜 𝓡 code.env #walker·moved-to moved-def.routine code.calls-walker·moved-to (moved-thm.met 𝓤 H 𝓜 𝓖 𝓡)))

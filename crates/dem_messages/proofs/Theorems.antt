@@ -1,0 +1,69 @@
+-- What the promises of two entries say together: a message that was read and is written back has the same bytes.
+-- Assumes nothing.
+use mathlib.Core.Path.{_≡_, refl, sym, ap, _∙_}
+use mathlib.Core.List.{List, _++_}
+use Prim.Native.Nat.{ℕ, _-_, _≤_}
+use native.Mathlib.Omega.{arith}
+use lib.ListN.{length, take, drop}
+use Rattle.format.specs.Bytes.{Bytes}
+use Rattle.dem.specs.Scene.{Scene as Described}
+use Rattle.dem.specs.Message.{Message as Values, fill, apply}
+use Rattle.dem.specs.WellFormed.{GoodMessage}
+use Rattle.dem.specs.Recording.{writeMessage, messages}
+use Rattle.format.specs.Answer.{Answer, result, Item, Written}
+use Rattle.dem.specs.Answer.{messageAt, writeSent}
+use Rattle.format.proofs.ByteLaws.{drop-bytes}
+use Rattle.format.proofs.CodecLaws.{Taken}
+use Rattle.dem.proofs.BlockLaws.{message-lawful}
+use Rattle.message.specs.declared.Message.{Message}
+use Rattle.message.specs.Places.{valuesTo}
+use Rattle.message.specs.Values.{valuesOf}
+use Rattle.scene.specs.declared.Scene.{Scene}
+use Rattle.scene.specs.declared.Filled.{Filled}
+use Rattle.scene.specs.Views.{sceneOf, filledBy}
+use Rattle.dem_messages.specs.Replies.{replyOf, countOf, writtenOf}
+use Rattle.dem_messages.specs.declared.MessageAnswer.the-variants.{Found}
+use Rattle.dem_messages.specs.declared.MessageReply.{MessageReply}
+use Rattle.dem_messages.specs.declared.WriteReply.{WriteReply}
+use Rattle.dem_messages.proofs.Messages.{FoundAt, found-reply-at, found-front, found-length}
+use Rattle.dem_messages.proofs.Writing.{done, done-reply}
+
+abbrev count-of : Written Described ℕ → Answer ℕ
+count-of w = w .answer
+
+abbrev room-of : Written Described ℕ → List ℕ
+room-of w = w .room
+
+abbrev written-scene : Written Described ℕ → Described
+written-scene w = w .scene
+
+module _ (scene : Scene) (s : List ℕ) (at : ℕ) (bytes : Bytes s) (r : MessageReply) (m : Message) (f : Filled) (next : ℕ)
+    (read : replyOf s r ≡ messageAt (sceneOf scene) s at) (was : r .answer ≡ Found m f next) where
+  abbrev t : Described
+  t = sceneOf scene
+
+  abbrev item : Item Values Values
+  item = record { sent = valuesOf s m; filled = filledBy (valuesTo s next) f; next = next }
+
+  -- The reader found it.
+  it : FoundAt t s at (sceneOf (r .scene)) item
+  it = found-reply-at t s at r m f next read was
+
+  -- The same bytes are written, what is behind them in the room stays, and the scene after it is the same.
+  pub written-back : (w : WriteReply) (room room′ : List ℕ)
+      → writtenOf w room′ ≡ writeSent t (valuesOf s m) room → next - at ≤ length room
+      → (countOf (w .answer) ≡ result (next - at)) × (room′ ≡ take (next - at) (drop at s) ++ drop (next - at) room)
+      × (sceneOf (w .scene) ≡ sceneOf (r .scene))
+  unfolding writeMessage
+  written-back w room room′ wrote h =
+      let b = writeMessage t (valuesOf s m) in
+      let k : Taken messages GoodMessage t (drop at s) (valuesOf s m) (it .rest) =
+      message-lawful .sound t (drop at s) (valuesOf s m) (it .rest) (drop-bytes at s bytes) (it .read) in
+      let front : take (next - at) (drop at s) ≡ b = found-front t s at _ item it bytes in
+      let long : next - at ≡ length b = found-length t s at _ item it bytes in
+      let size : next - at ≡ length (take (next - at) (drop at s)) = long ∙ ap length (sym front) in
+      let x : writtenOf w room′ ≡ done (apply t (fill t (valuesOf s m))) (next - at) (take (next - at) (drop at s) ++ drop (next - at) room) =
+      wrote
+      ∙ sym (done-reply t (valuesOf s m) room (it .range) (k .good .going) (k .good .allowed) refl front size
+      (ap (λ (j : ℕ). take (next - at) (drop at s) ++ drop j room) size) (omega (arith, long))) in
+      (ap count-of x, ap room-of x, ap written-scene x ∙ sym (it .after))

@@ -3,8 +3,8 @@
 
 use crate::message::*;
 use crate::read::{read_block, read_message, read_track, Block, Step};
-use crate::scene::{Player, Scene, PLAYERS};
-use crate::text::{record_fields, Fields};
+use crate::scene::{Player, Scene, ENTITIES, PLAYERS};
+use crate::text::{baseline_fields, record_fields, Fields};
 use crate::write::{normal_message, write_block, write_message, write_to_room};
 use std::fmt::Write;
 
@@ -20,11 +20,28 @@ pub fn answers(script: &str) -> String {
     for line in script.lines() {
         let _ = writeln!(state.out, "{line}");
         let letter = line.chars().next().unwrap_or('#');
-        if let [place, len, bytes @ ..] = &hex(line.get(1..).unwrap_or_default())[..] {
-            state.ask(letter, usize::from(*place), usize::from(*len), bytes);
+        match &hex(line.get(1..).unwrap_or_default())[..] {
+            [place, place_low, len, len_low, packed @ ..] if letter.is_ascii_uppercase() => {
+                let (place, len) = ([*place, *place_low], [*len, *len_low]);
+                let (place, len) = (u16::from_be_bytes(place), u16::from_be_bytes(len));
+                let bytes = unpacked(packed);
+                state.ask(letter.to_ascii_lowercase(), place.into(), len.into(), &bytes);
+            }
+            [place, len, bytes @ ..] if letter.is_ascii_lowercase() => {
+                state.ask(letter, usize::from(*place), usize::from(*len), bytes);
+            }
+            _ => {}
         }
     }
     state.out
+}
+
+/// Runs, one behind the other: a length (two bytes), how many bytes repeat, and these.
+fn unpacked(packed: &[u8]) -> Vec<u8> {
+    let [high, low, size, rest @ ..] = packed else { return Vec::new() };
+    let (run, rest) = rest.split_at(usize::from(*size).min(rest.len()));
+    let length = usize::from(u16::from_be_bytes([*high, *low]));
+    run.iter().copied().cycle().take(length).chain(unpacked(rest)).collect()
 }
 
 /// Two digits are a byte; what is no digit is passed.
@@ -54,6 +71,11 @@ impl State {
             'w' => self.walk(bytes),
             'k' => self.normal_block(bytes, place, len),
             'b' => self.normal_blocks(bytes, place, len),
+            'a' => self.recording(bytes),
+            'h' => self.track(bytes),
+            'd' => self.block(bytes, place),
+            'g' => self.blocks(bytes, place),
+            'e' => self.entity(bytes),
             'r' => self.normal_recording(bytes, len),
             't' => self.normal_track(bytes, len),
             'i' => self.set_lines(bytes),
@@ -142,6 +164,81 @@ impl State {
             let _ = write!(line, "{byte:02x}");
         }
         self.say(line);
+    }
+
+    /// What was answered, and the scene.
+    fn told(&mut self, answer: Result<String, Refusal>) {
+        self.say(answer.unwrap_or_else(|refusal| refusal.to_string()));
+        self.show(&self.scene.clone());
+    }
+
+    /// A whole recording; a refusal leaves the scene at the start.
+    fn recording(&mut self, bytes: &[u8]) {
+        let read = crate::read::read_recording(bytes);
+        let answer = match (read.refusal, read.track) {
+            (None, Some(track)) => {
+                let (blocks, messages) = (read.blocks.len(), read.messages());
+                self.scene = read.scene;
+                Ok(format!("track {track} blocks {blocks} messages {messages}"))
+            }
+            (refusal, _) => {
+                self.scene = Scene::start();
+                Err(refusal.expect("no track line"))
+            }
+        };
+        self.told(answer);
+    }
+
+    fn track(&mut self, bytes: &[u8]) {
+        let answer = read_track(bytes).map(|(track, next)| format!("track {track} next {next}"));
+        self.say(answer.unwrap_or_else(|refusal| refusal.to_string()));
+    }
+
+    fn block(&mut self, bytes: &[u8], at: usize) {
+        let answer = block_at(&self.scene, bytes, at).map(|found| {
+            let Some((block, after)) = found else { return "end".into() };
+            self.scene = after;
+            let [a, b, c] = block.angles;
+            let start = block.messages.first().map_or(block.next, |step| step.place);
+            let counts = format!("messages {} next {}", block.messages.len(), block.next);
+            format!("angles {a:08x} {b:08x} {c:08x} start {start} {counts}")
+        });
+        self.told(answer);
+    }
+
+    /// As many blocks as can be read, and the refusal that is met behind them.
+    fn blocks(&mut self, bytes: &[u8], place: usize) {
+        if !self.scene.in_ranges() || place > bytes.len() {
+            let refusal = block_at(&self.scene, bytes, place).expect_err("refused");
+            return self.told(Err(refusal));
+        }
+        let (mut at, mut blocks, mut messages) = (place, 0, 0);
+        let Refusal { number, place } = loop {
+            match block_at(&self.scene, bytes, at) {
+                Ok(None) => break Refusal { number: 0, place: at },
+                Err(refusal) => break refusal,
+                Ok(Some((block, after))) => {
+                    at = block.next;
+                    blocks += 1;
+                    messages += block.messages.len();
+                    self.scene = after;
+                }
+            }
+        };
+        let read = format!("blocks {blocks} messages {messages} next {at}");
+        self.told(Ok(format!("{read} refusal {number} place {place}")));
+    }
+
+    /// The baseline and the record of an entity, by its number in two bytes.
+    fn entity(&mut self, bytes: &[u8]) {
+        let [low, high, ..] = bytes else { return };
+        let i = usize::from(u16::from_le_bytes([*low, *high]));
+        if i < ENTITIES {
+            let (baseline, record) = (self.scene.baselines[i], self.scene.records[i]);
+            self.say(format!("baseline {}", baseline_fields(&baseline)));
+            let present = u8::from(self.scene.present[i]);
+            self.say(format!("record present={present} {}", record_fields(&record)));
+        }
     }
 
     fn normal_message(&mut self, bytes: &[u8], at: usize, len: usize) {
@@ -397,7 +494,9 @@ fn named<T: Fields, S: Fields, C: Fields, U: Fields>(message: &Message<T, S, C, 
 /// and the marked records.
 fn scene_lines(scene: &Scene) -> String {
     let Scene { ended, limit, view, pause, statics, .. } = scene;
-    let mut out = format!("  scene ended={} limit={limit} view={view}", u8::from(*ended));
+    let time = scene.time.map_or("none".into(), |bits| format!("{bits:08x}"));
+    let mut out = format!("  scene ended={} time={time}", u8::from(*ended));
+    let _ = write!(out, " limit={limit} view={view}");
     let _ = write!(out, " pause={pause} statics={statics}");
     for (i, stat) in scene.stats.iter().enumerate().filter(|(_, stat)| **stat != 0) {
         let _ = write!(out, " stat {i}={stat}");

@@ -82,7 +82,7 @@ fn axes(origin: &[i16; 3], angles: &[i8; 3]) -> String {
     )
 }
 
-fn baseline_fields(b: &Baseline) -> String {
+pub fn baseline_fields(b: &Baseline) -> String {
     let axes = axes(&b.origin, &b.angles);
     format!("model={} frame={} colormap={} skin={} {axes}", b.model, b.frame, b.colormap, b.skin)
 }

@@ -73,7 +73,7 @@ fn cases_are_answered_line_by_line() {
     let script = "s 00 00 16 0500 03000000 0002 00 0000 00 c000 00\nn 00 03 c205000802\nn 00 06 c205000802\n\
         s 00 00\nw 00 00 01 02\ns 00 00 0b0f0000000200000000\ni 00 00 0900 21\nl 00 10 01 02 feff 0e010300\n\
         l 00 0f 00 00 0000\n";
-    let scene = "  scene ended=0 limit=0 view=0 pause=0 statics=0\n";
+    let scene = "  scene ended=0 time=none limit=0 view=0 pause=0 statics=0\n";
     let record = "  record 5 model=3 frame=0 colormap=0 skin=0 effects=0 x=520 angle0=0 y=0 angle1=0 z=192 angle2=0 bit5=0\n";
     let ended = scene.replace("ended=0", "ended=1");
     let two = scene.replace("limit=0", "limit=2");
@@ -100,6 +100,42 @@ fn cases_are_answered_line_by_line() {
         .zip(answers)
         .map(|(line, answer)| format!("{}\n{answer}", line.trim_start()))
         .collect();
+    assert_eq!(stdout(&run(&["cases"], script.as_bytes())), expected);
+}
+
+/// Document 01's marked recording, whole and by its parts; packed, 128 statics and one more.
+#[test]
+fn recordings_are_cases_too() {
+    let first = "1a000000 00000000 00000000 00000000 070000803f 160500030000000002000000 00c00000 c205000802";
+    let marked = format!("2d310a {first} 01000000 00000000 00000000 00000000 02");
+    let one = "14 00000000000000000000000000";
+    let script = format!(
+        "a 00 00 {marked}\nh 00 00 {marked}\ns 00 00\nd 03 00 {marked}\ng 2d 00 {marked}\nd 2d 00 {marked}\ng 3f 00 {marked}\n\
+         e 00 00 0500\nS 0000 0000 0700 0e {one}\nM 0000 0010 000e 0e {one}\n"
+    );
+    let scene = "  scene ended=0 time=none limit=0 view=0 pause=0 statics=0\n";
+    let timed = scene.replace("none", "3f800000");
+    let pose = "angle0=0 y=0 angle1=0 z=192 angle2=0";
+    let fields = format!("model=3 frame=0 colormap=0 skin=0 effects=0 x=520 {pose} bit5=0\n");
+    let record = format!("  record 5 {fields}");
+    let ended = timed.replace("ended=0", "ended=1") + &record;
+    let many = scene.replace("statics=0", "statics=128");
+    let answers = [
+        format!("  track -1 blocks 2 messages 4\n{ended}"),
+        "  track -1 next 3\n".into(),
+        format!("  all messages 0 refusal 0 place 0\n{scene}"),
+        format!("  angles 00000000 00000000 00000000 start 19 messages 3 next 45\n{timed}{record}"),
+        format!("  blocks 1 messages 1 next 62 refusal 0 place 62\n{ended}"),
+        format!("  refused 11 at 45\n{ended}"),
+        format!("  refused 5 at 63\n{ended}"),
+        format!(
+            "  baseline model=3 frame=0 colormap=0 skin=0 x=512 {pose}\n  record present=1 {fields}"
+        ),
+        format!("  all messages 128 refusal 0 place 1792\n{many}"),
+        format!("  refused 9 at 0\n{many}"),
+    ];
+    let lines = script.lines().zip(answers);
+    let expected: String = lines.map(|(line, answer)| format!("{line}\n{answer}")).collect();
     assert_eq!(stdout(&run(&["cases"], script.as_bytes())), expected);
 }
 

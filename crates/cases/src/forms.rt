@@ -1,13 +1,14 @@
 // Normal forms of blocks and of recordings, into room that held EE.
 use crate::messages;
-use cobbrundle::Progress;
-use cobbrundle::RewriteAnswer;
-use cobbrundle::TrackNormalAnswer;
-use cobbrundle::WriteAnswer;
+use crate::recordings;
+use dem_messages::WriteAnswer;
+use dem_recordings::Progress;
+use dem_recordings::RewriteAnswer;
+use dem_recordings::TrackNormalAnswer;
 use scene::Scene;
 
 pub fn normal(scene: Scene, bytes: &[u8], place: usize, room: &mut [u8]) -> Scene {
-    let r = cobbrundle::normal_block_at(scene, bytes, place, room);
+    let r = dem_recordings::normal_block_at(scene, bytes, place, room);
     let answer = r.answer;
     let after = r.scene;
     messages::normal_answer(answer);
@@ -23,15 +24,12 @@ fn refused(n: u8, at: usize) {
 
 fn progress(p: Progress, len: usize) {
     show::count(b"  written ", len);
-    show::count(b" blocks ", p.blocks);
-    show::count(b" messages ", p.messages);
-    show::count(b" next ", p.next);
-    show::count(b" refusal ", p.refusal as usize);
-    show::count(b" place ", p.place);
+    show::say(b" ");
+    recordings::progress(p);
 }
 
 pub fn normal_all(scene: Scene, bytes: &[u8], place: usize, room: &mut [u8]) -> Scene {
-    let r = cobbrundle::normal_blocks_at(scene, bytes, place, room);
+    let r = dem_recordings::normal_blocks_at(scene, bytes, place, room);
     let answer = r.answer;
     let after = r.scene;
     match answer {
@@ -47,7 +45,7 @@ pub fn normal_all(scene: Scene, bytes: &[u8], place: usize, room: &mut [u8]) -> 
 }
 
 pub fn recording(bytes: &[u8], room: &mut [u8]) -> Scene {
-    let r = cobbrundle::normal_recording(bytes, room);
+    let r = dem_recordings::normal_recording(bytes, room);
     let answer = r.answer;
     let after = r.scene;
     match answer {
@@ -61,7 +59,7 @@ pub fn recording(bytes: &[u8], room: &mut [u8]) -> Scene {
 
 // The scene is not asked for, and stays.
 pub fn track(scene: Scene, bytes: &[u8], room: &mut [u8]) -> Scene {
-    match cobbrundle::normal_track(bytes, room) {
+    match dem_recordings::normal_track(bytes, room) {
         TrackNormalAnswer::Written(n, next) => {
             show::count(b"  written ", n);
             show::count(b" next ", next);

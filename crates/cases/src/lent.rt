@@ -28,7 +28,7 @@ fn shown(lines: [PlayerLine; 17]) -> [PlayerLine; 17] {
     lines
 }
 
-pub fn set(bytes: &[u8]) -> [PlayerLine; 17] {
+fn set(bytes: &[u8]) -> [PlayerLine; 17] {
     let line = PlayerLine {
         frags: short(byte_at(bytes, 0), byte_at(bytes, 1)),
         colours: byte_at(bytes, 2),
@@ -46,7 +46,7 @@ fn change(bytes: &[u8]) -> LineChange {
     }
 }
 
-pub fn lend(
+fn lend(
     lines: [PlayerLine; 17],
     count: usize,
     scene: Scene,
@@ -58,4 +58,20 @@ pub fn lend(
     }
     let after = lends::lend(lines, count, change(bytes), scene, &bytes[4..], place);
     shown(after)
+}
+
+// The lines that what was asked leaves.
+pub fn ask(
+    lines: [PlayerLine; 17],
+    letter: u8,
+    count: usize,
+    scene: Scene,
+    bytes: &[u8],
+    place: usize,
+) -> [PlayerLine; 17] {
+    match letter {
+        b'i' => set(bytes),
+        b'l' => lend(lines, count, scene, bytes, place),
+        _ => lines,
+    }
 }

@@ -1,12 +1,12 @@
 // Messages: read, written back, in normal form, and by a walker. Room held EE.
-use cobbrundle::MessageAnswer;
-use cobbrundle::NormalAnswer;
-use cobbrundle::WriteAnswer;
+use dem_messages::MessageAnswer;
+use dem_messages::NormalAnswer;
+use dem_messages::WriteAnswer;
 use message::Message;
 use scene::Scene;
 use wire::Text;
 
-pub fn all(block: &[u8], scene: Scene) -> Scene {
+fn all(block: &[u8], scene: Scene) -> Scene {
     let all = walker::read_all(block, scene);
     let after = all.scene;
     show::count(b"  all messages ", all.messages);
@@ -17,7 +17,7 @@ pub fn all(block: &[u8], scene: Scene) -> Scene {
     after
 }
 
-pub fn too_many_statics(scene: Scene) -> Scene {
+fn too_many_statics(scene: Scene) -> Scene {
     let mut rest = scene.rest;
     rest.statics = 129;
     let mut wrong = scene;
@@ -27,12 +27,12 @@ pub fn too_many_statics(scene: Scene) -> Scene {
 
 pub fn shown(room: &[u8]) {
     show::say(b": ");
-    show::bytes(room, room.len());
+    show::hex(room, room.len());
     show::say(b"\n");
 }
 
 fn put(scene: Scene, m: Message, text: &[u8], room: &mut [u8]) -> Scene {
-    let r = cobbrundle::write_message(scene, m, text, room);
+    let r = dem_messages::write_message(scene, m, text, room);
     let answer = r.answer;
     show::say(b"  ");
     match answer {
@@ -44,8 +44,8 @@ fn put(scene: Scene, m: Message, text: &[u8], room: &mut [u8]) -> Scene {
 }
 
 // The scene after the message; it is shown, and so is the one behind what was written.
-pub fn read(scene: Scene, bytes: &[u8], place: usize, room: &mut [u8]) -> Scene {
-    let r = cobbrundle::read_message_at(scene, bytes, place);
+fn read(scene: Scene, bytes: &[u8], place: usize, room: &mut [u8]) -> Scene {
+    let r = dem_messages::read_message_at(scene, bytes, place);
     let answer = r.answer;
     let after = r.scene;
     show::fields::answer(answer, bytes);
@@ -77,7 +77,7 @@ fn made(bytes: &[u8], kind: usize) -> Message {
     }
 }
 
-pub fn write(scene: Scene, bytes: &[u8], kind: usize, room: &mut [u8]) -> Scene {
+fn write(scene: Scene, bytes: &[u8], kind: usize, room: &mut [u8]) -> Scene {
     let after = put(scene, made(bytes, kind), bytes, room);
     show::scenes::show(after);
     after
@@ -97,8 +97,8 @@ pub fn normal_answer(answer: NormalAnswer) {
     }
 }
 
-pub fn normal(scene: Scene, bytes: &[u8], place: usize, room: &mut [u8]) -> Scene {
-    let r = cobbrundle::normal_message_at(scene, bytes, place, room);
+fn normal(scene: Scene, bytes: &[u8], place: usize, room: &mut [u8]) -> Scene {
+    let r = dem_messages::normal_message_at(scene, bytes, place, room);
     let answer = r.answer;
     let after = r.scene;
     normal_answer(answer);
@@ -108,9 +108,30 @@ pub fn normal(scene: Scene, bytes: &[u8], place: usize, room: &mut [u8]) -> Scen
 }
 
 // The scene after three steps.
-pub fn walk(scene: Scene, block: &[u8]) -> Scene {
+fn walk(scene: Scene, block: &[u8]) -> Scene {
     let after = walks::three_steps(block, scene);
     show::scenes::show(after);
     all(block, scene);
     after
+}
+
+fn entity(scene: Scene, bytes: &[u8]) -> Scene {
+    let low = byte_at(bytes, 0) as usize;
+    let high = byte_at(bytes, 1) as usize;
+    show::scenes::entity(scene, low + 256 * high);
+    scene
+}
+
+// The scene that what was asked leaves.
+pub fn ask(scene: Scene, letter: u8, place: usize, bytes: &[u8], room: &mut [u8]) -> Scene {
+    match letter {
+        b's' => all(bytes, dem_messages::start()),
+        b'o' => too_many_statics(scene),
+        b'e' => entity(scene, bytes),
+        b'm' => read(scene, bytes, place, room),
+        b'n' => normal(scene, bytes, place, room),
+        b'p' => write(scene, bytes, place, room),
+        b'w' => walk(scene, bytes),
+        _ => scene,
+    }
 }

@@ -1,8 +1,16 @@
 // The lines of a scene's text, by its form for every program that prints one.
 use crate::text;
-use cobbrundle::RecordingAnswer;
-use cobbrundle::RecordingReply;
-use cobbrundle::read_recording;
+use crate::text::bit;
+use crate::text::char;
+use crate::text::form;
+use crate::text::long;
+use crate::text::short;
+use dem::limit::ENTITY_COUNT;
+use dem::limit::PLAYER_COUNT;
+use dem::limit::STAT_COUNT;
+use dem_recordings::RecordingAnswer;
+use dem_recordings::RecordingReply;
+use dem_recordings::read_recording;
 use message::Arms;
 use message::Look;
 use message::Motion;
@@ -25,87 +33,101 @@ fn time(out: &mut [u8], at: usize, rest: Rest) -> usize {
     }
 }
 
-fn stats(out: &mut [u8], at: usize, values: [i32; 32]) -> usize {
+fn stat(out: &mut [u8], at: usize, v: i32) -> usize {
+    form(out, at, b" %", &[long(v)])
+}
+
+fn stats(out: &mut [u8], at: usize, values: [i32; STAT_COUNT]) -> usize {
     let mut end = text::put(out, at, b"\nstats");
     let mut i = 0;
-    while i < 32 {
-        end = text::long(out, end, b" ", values[i]);
+    while i < STAT_COUNT {
+        end = stat(out, end, values[i]);
         i += 1;
     }
     end
 }
 
-fn chars(out: &mut [u8], at: usize, name0: &[u8], v0: i8, name1: &[u8], v1: i8) -> usize {
-    let end = text::char(out, at, name0, v0);
-    text::char(out, end, name1, v1)
-}
-
 // Each axis has its punch before its velocity.
-fn axes(out: &mut [u8], at: usize, m: Motion) -> usize {
-    let mut end = chars(out, at, b" punch0=", m.punch0, b" velocity0=", m.velocity0);
-    end = chars(out, end, b" punch1=", m.punch1, b" velocity1=", m.velocity1);
-    chars(out, end, b" punch2=", m.punch2, b" velocity2=", m.velocity2)
-}
-
 fn motion(out: &mut [u8], at: usize, m: Motion) -> usize {
-    let end = chars(
+    form(
         out,
         at,
-        b" view_height=",
-        m.view_height,
-        b" pitch=",
-        m.pitch,
-    );
-    axes(out, end, m)
-}
-
-fn arms(out: &mut [u8], at: usize, a: Arms) -> usize {
-    let mut end = text::byte(out, at, b" weapon_frame=", a.weapon_frame);
-    end = text::byte(out, end, b" armour=", a.armour);
-    text::byte(out, end, b" weapon_model=", a.weapon_model)
-}
-
-fn counts(out: &mut [u8], at: usize, s: Supplies) -> usize {
-    let mut end = text::byte(out, at, b" count0=", s.count0);
-    end = text::byte(out, end, b" count1=", s.count1);
-    end = text::byte(out, end, b" count2=", s.count2);
-    text::byte(out, end, b" count3=", s.count3)
-}
-
-fn supplies(out: &mut [u8], at: usize, s: Supplies) -> usize {
-    let mut end = text::short(out, at, b" health=", s.health);
-    end = text::byte(out, end, b" ammo=", s.ammo);
-    end = counts(out, end, s);
-    text::byte(out, end, b" weapon=", s.weapon)
+        b"\nclientdata view_height=% pitch=% punch0=% velocity0=% punch1=% velocity1=% punch2=% velocity2=%",
+        &[
+            char(m.view_height),
+            char(m.pitch),
+            char(m.punch0),
+            char(m.velocity0),
+            char(m.punch1),
+            char(m.velocity1),
+            char(m.punch2),
+            char(m.velocity2),
+        ],
+    )
 }
 
 fn state(out: &mut [u8], at: usize, c: Client) -> usize {
-    let mut end = text::long(out, at, b" items=", c.items);
-    end = text::flag(out, end, b" ground=", c.ground);
-    text::flag(out, end, b" water=", c.water)
+    form(
+        out,
+        at,
+        b" items=% ground=% water=%",
+        &[long(c.items), bit(c.ground), bit(c.water)],
+    )
+}
+
+fn arms(out: &mut [u8], at: usize, a: Arms) -> usize {
+    form(
+        out,
+        at,
+        b" weapon_frame=% armour=% weapon_model=%",
+        &[
+            a.weapon_frame as u64,
+            a.armour as u64,
+            a.weapon_model as u64,
+        ],
+    )
+}
+
+fn supplies(out: &mut [u8], at: usize, s: Supplies) -> usize {
+    form(
+        out,
+        at,
+        b" health=% ammo=% count0=% count1=% count2=% count3=% weapon=%",
+        &[
+            short(s.health),
+            s.ammo as u64,
+            s.count0 as u64,
+            s.count1 as u64,
+            s.count2 as u64,
+            s.count3 as u64,
+            s.weapon as u64,
+        ],
+    )
 }
 
 fn client(out: &mut [u8], at: usize, c: Client) -> usize {
     let m = c.motion;
     let a = c.arms;
     let s = c.supplies;
-    let mut end = text::put(out, at, b"\nclientdata");
-    end = motion(out, end, m);
+    let mut end = motion(out, at, m);
     end = state(out, end, c);
     end = arms(out, end, a);
     supplies(out, end, s)
 }
 
 fn player(out: &mut [u8], at: usize, i: usize, line: PlayerLine) -> usize {
-    let mut end = text::number(out, at, b"\nplayer ", i as u64);
-    end = text::short(out, end, b" frags=", line.frags);
-    text::byte(out, end, b" colours=", line.colours)
+    form(
+        out,
+        at,
+        b"\nplayer % frags=% colours=%",
+        &[i as u64, short(line.frags), line.colours as u64],
+    )
 }
 
-fn players(out: &mut [u8], at: usize, values: [PlayerLine; 16]) -> usize {
+fn players(out: &mut [u8], at: usize, values: [PlayerLine; PLAYER_COUNT]) -> usize {
     let mut end = at;
     let mut i = 0;
-    while i < 16 {
+    while i < PLAYER_COUNT {
         let line = values[i];
         end = player(out, end, i, line);
         i += 1;
@@ -115,16 +137,23 @@ fn players(out: &mut [u8], at: usize, values: [PlayerLine; 16]) -> usize {
 
 fn numbers(out: &mut [u8], at: usize, rest: Rest) -> usize {
     let view = rest.view;
-    let mut end = text::byte(out, at, b"\nlimit ", rest.limit);
-    end = text::number(out, end, b"\nview ", view.0 as u64);
-    end = text::byte(out, end, b"\npause ", rest.pause);
-    text::byte(out, end, b"\nstatics ", rest.statics)
+    form(
+        out,
+        at,
+        b"\nlimit %\nview %\npause %\nstatics %",
+        &[
+            rest.limit as u64,
+            view.0 as u64,
+            rest.pause as u64,
+            rest.statics as u64,
+        ],
+    )
 }
 
 fn rest_lines(out: &mut [u8], at: usize, rest: Rest) -> usize {
     let values = rest.stats;
     let c = rest.client;
-    let mut end = text::flag(out, at, b"\nended ", rest.ended);
+    let mut end = form(out, at, b"\nended %", &[bit(rest.ended)]);
     end = time(out, end, rest);
     end = numbers(out, end, rest);
     end = stats(out, end, values);
@@ -132,21 +161,33 @@ fn rest_lines(out: &mut [u8], at: usize, rest: Rest) -> usize {
 }
 
 fn look(out: &mut [u8], at: usize, l: Look) -> usize {
-    let mut end = text::byte(out, at, b" model=", l.model);
-    end = text::byte(out, end, b" frame=", l.frame);
-    end = text::byte(out, end, b" colormap=", l.colormap);
-    text::byte(out, end, b" skin=", l.skin)
-}
-
-fn axis(out: &mut [u8], at: usize, name: &[u8], v: i16, angle_name: &[u8], angle: i8) -> usize {
-    let end = text::short(out, at, name, v);
-    text::char(out, end, angle_name, angle)
+    form(
+        out,
+        at,
+        b" model=% frame=% colormap=% skin=%",
+        &[
+            l.model as u64,
+            l.frame as u64,
+            l.colormap as u64,
+            l.skin as u64,
+        ],
+    )
 }
 
 fn pose(out: &mut [u8], at: usize, p: Pose) -> usize {
-    let mut end = axis(out, at, b" x=", p.x, b" angle0=", p.angle0);
-    end = axis(out, end, b" y=", p.y, b" angle1=", p.angle1);
-    axis(out, end, b" z=", p.z, b" angle2=", p.angle2)
+    form(
+        out,
+        at,
+        b" x=% angle0=% y=% angle1=% z=% angle2=%",
+        &[
+            short(p.x),
+            char(p.angle0),
+            short(p.y),
+            char(p.angle1),
+            short(p.z),
+            char(p.angle2),
+        ],
+    )
 }
 
 fn is_zero(l: Look, p: Pose) -> bool {
@@ -165,42 +206,41 @@ fn baseline(out: &mut [u8], at: usize, i: usize, b: Baseline) -> usize {
     if is_zero(l, p) {
         return at;
     }
-    let mut end = text::number(out, at, b"\nbaseline ", i as u64);
+    let mut end = form(out, at, b"\nbaseline %", &[i as u64]);
     end = look(out, end, l);
     pose(out, end, p)
 }
 
-fn fields(out: &mut [u8], at: usize, r: Record) -> usize {
+fn record_line(out: &mut [u8], at: usize, i: usize, r: Record, present: bool) -> usize {
     let l = r.look;
     let p = r.pose;
-    let mut end = look(out, at, l);
-    end = text::byte(out, end, b" effects=", r.effects);
+    let mut end = form(out, at, b"\nrecord % present=%", &[i as u64, bit(present)]);
+    end = look(out, end, l);
+    end = form(out, end, b" effects=%", &[r.effects as u64]);
     end = pose(out, end, p);
-    text::flag(out, end, b" bit5=", r.bit5)
+    form(out, end, b" bit5=%", &[bit(r.bit5)])
 }
 
-fn record_line(out: &mut [u8], at: usize, i: usize, r: Record, present: bool) -> usize {
-    let mut end = text::number(out, at, b"\nrecord ", i as u64);
-    end = text::flag(out, end, b" present=", present);
-    fields(out, end, r)
-}
-
-fn record(out: &mut [u8], at: usize, i: usize, r: Record, present: bool) -> usize {
+fn is_told(r: Record, present: bool) -> bool {
     let l = r.look;
     let p = r.pose;
     if present || r.bit5 || r.effects != 0 {
+        return true;
+    }
+    !is_zero(l, p)
+}
+
+fn record(out: &mut [u8], at: usize, i: usize, r: Record, present: bool) -> usize {
+    if is_told(r, present) {
         return record_line(out, at, i, r, present);
     }
-    if is_zero(l, p) {
-        return at;
-    }
-    record_line(out, at, i, r, present)
+    at
 }
 
 fn baselines(out: &mut [u8], at: usize, s: Scene) -> usize {
     let mut end = at;
     let mut i = 0;
-    while i < 449 {
+    while i < ENTITY_COUNT {
         let b = s.baselines[i];
         end = baseline(out, end, i, b);
         i += 1;
@@ -211,7 +251,7 @@ fn baselines(out: &mut [u8], at: usize, s: Scene) -> usize {
 fn records(out: &mut [u8], at: usize, s: Scene) -> usize {
     let mut end = at;
     let mut i = 0;
-    while i < 449 {
+    while i < ENTITY_COUNT {
         let r = s.records[i];
         let present = s.present[i];
         end = record(out, end, i, r, present);
@@ -230,22 +270,28 @@ fn scene_lines(out: &mut [u8], at: usize, s: Scene) -> usize {
     text::put(out, end, b"\n")
 }
 
+fn accepted(out: &mut [u8], track: i16, blocks: usize, messages: usize) -> usize {
+    form(
+        out,
+        0,
+        b"accepted\ntrack %\nblocks %\nmessages %",
+        &[short(track), blocks as u64, messages as u64],
+    )
+}
+
+fn refused(out: &mut [u8], n: u8, place: usize) -> usize {
+    form(out, 0, b"refused % at %\n", &[n as u64, place as u64])
+}
+
 fn reply_lines(out: &mut [u8], reply: RecordingReply) -> usize {
     let answer = reply.answer;
     let s = reply.scene;
     match answer {
         RecordingAnswer::Read(track, blocks, messages) => {
-            let mut end = text::put(out, 0, b"accepted");
-            end = text::short(out, end, b"\ntrack ", track);
-            end = text::number(out, end, b"\nblocks ", blocks as u64);
-            end = text::number(out, end, b"\nmessages ", messages as u64);
+            let end = accepted(out, track, blocks, messages);
             scene_lines(out, end, s)
         }
-        RecordingAnswer::Refused(n, place) => {
-            let mut end = text::byte(out, 0, b"refused ", n);
-            end = text::number(out, end, b" at ", place as u64);
-            text::put(out, end, b"\n")
-        }
+        RecordingAnswer::Refused(n, place) => refused(out, n, place),
     }
 }
 

@@ -1,6 +1,6 @@
 // Player lines that are kept in a local and lent as one list.
 ghost use Prim.Native.Nat.{_≤_};
-use cobbrundle::MessageReply;
+use dem_messages::MessageReply;
 use lines::LineChange;
 use lines::LinesAnswer;
 use scene::PlayerLine;

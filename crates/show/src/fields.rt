@@ -1,20 +1,18 @@
 // A message as sent or filled in: its kind's name, then its fields. A string as sent is its place and its length; filled in it is its bytes
 // in quotes, with \xHH for what is not plain ASCII, a quote or a backslash.
-use crate::bits;
-use crate::byte;
+use crate::bit;
 use crate::char;
 use crate::count;
-use crate::flag;
+use crate::digits;
 use crate::long;
 use crate::look;
-use crate::mask;
+use crate::numbers;
 use crate::pose;
 use crate::refused;
 use crate::say;
 use crate::short;
 use crate::vector;
-use crate::word;
-use cobbrundle::MessageAnswer;
+use dem_messages::MessageAnswer;
 use message::Arms;
 use message::Clientdata;
 use message::Entity;
@@ -36,15 +34,19 @@ use scene::FilledSound;
 use scene::Record;
 use wire::Text;
 
-fn wide(v: u16) -> u64 {
-    v as u64
+fn entity(e: Entity) -> u64 {
+    e.0 as u64
+}
+
+fn player(p: Player) -> u64 {
+    p.0 as u64
 }
 
 // ---- strings
 
 fn quoted_byte(b: u8) {
     match b {
-        0x22 | 0x5C | 0..=0x1F | 0x7F..=0xFF => mask(b"\\x", b as u64, 2),
+        0x22 | 0x5C | 0..=0x1F | 0x7F..=0xFF => digits(b"\\x", b as u64, 2),
         _ => say(&[b]),
     }
 }
@@ -77,76 +79,74 @@ fn string(name: &[u8], t: Text, text: &[u8], by_bytes: bool) {
     }
 }
 
-// ---- plain messages
-
-fn stat(i: u8, v: i32) {
-    byte(b"stat stat=", i);
-    long(b" value=", v);
+fn only_string(t: Text, text: &[u8], by_bytes: bool) {
+    string(b" text=", t, text, by_bytes);
 }
 
-fn entity(name: &[u8], e: Entity) {
-    word(name, e.0);
+fn style(i: u8, t: Text, text: &[u8], by_bytes: bool) {
+    numbers(b" style=", &[i as u64]);
+    only_string(t, text, by_bytes);
 }
 
-fn player(name: &[u8], p: Player) {
-    byte(name, p.0);
-}
-
-fn stopsound(name: &[u8], channel: u8, e: Entity) {
-    byte(name, channel);
-    entity(b" entity=", e);
-}
-
-fn angles(a: i8, b: i8, c: i8) {
-    char(b"angles angle0=", a);
-    char(b" angle1=", b);
-    char(b" angle2=", c);
+fn name(p: Player, t: Text, text: &[u8], by_bytes: bool) {
+    numbers(b" player=", &[player(p)]);
+    only_string(t, text, by_bytes);
 }
 
 fn serverinfo(s: Serverinfo, text: &[u8], by_bytes: bool) {
     let map = s.map;
     let names = s.names;
-    long(b"serverinfo protocol=", s.protocol);
-    byte(b" limit=", s.limit);
-    byte(b" game=", s.game);
+    numbers(
+        b" protocol= limit= game=",
+        &[long(s.protocol), s.limit as u64, s.game as u64],
+    );
     string(b" map=", map, text, by_bytes);
     string(b" names=", names, text, by_bytes);
 }
 
-fn style(i: u8, t: Text, text: &[u8], by_bytes: bool) {
-    byte(b"style style=", i);
-    string(b" text=", t, text, by_bytes);
+// ---- numbers
+
+fn one(name: &[u8], v: u64) {
+    numbers(name, &[v]);
 }
 
-fn name(p: Player, t: Text, text: &[u8], by_bytes: bool) {
-    player(b"name player=", p);
-    string(b" text=", t, text, by_bytes);
+fn stat(i: u8, v: i32) {
+    numbers(b" stat= value=", &[i as u64, long(v)]);
+}
+
+fn stopsound(channel: u8, e: Entity) {
+    numbers(b" channel= entity=", &[channel as u64, entity(e)]);
+}
+
+fn angles(a: i8, b: i8, c: i8) {
+    numbers(b" angle0= angle1= angle2=", &[char(a), char(b), char(c)]);
 }
 
 fn frags(p: Player, v: i16) {
-    player(b"frags player=", p);
-    short(b" frags=", v);
+    numbers(b" player= frags=", &[player(p), short(v)]);
 }
 
 fn colours(p: Player, v: u8) {
-    player(b"colours player=", p);
-    byte(b" colours=", v);
+    numbers(b" player= colours=", &[player(p), v as u64]);
 }
 
 fn particle(p: Particle) {
     let origin = p.origin;
-    say(b"particle");
     vector(origin);
-    char(b" velocity0=", p.direction0);
-    char(b" velocity1=", p.direction1);
-    char(b" velocity2=", p.direction2);
-    byte(b" count=", p.count);
-    byte(b" colour=", p.colour);
+    numbers(
+        b" velocity0= velocity1= velocity2= count= colour=",
+        &[
+            char(p.direction0),
+            char(p.direction1),
+            char(p.direction2),
+            p.count as u64,
+            p.colour as u64,
+        ],
+    );
 }
 
 fn damage(save: u8, take: u8, origin: Vector) {
-    byte(b"damage save=", save);
-    byte(b" take=", take);
+    numbers(b" save= take=", &[save as u64, take as u64]);
     vector(origin);
 }
 
@@ -156,23 +156,31 @@ fn thing(l: Look, p: Pose) {
 }
 
 fn baseline(e: Entity, l: Look, p: Pose) {
-    entity(b"baseline entity=", e);
+    one(b" entity=", entity(e));
     thing(l, p);
 }
 
+fn ends(start: Vector, end: Vector) {
+    numbers(
+        b" start_x= start_y= start_z= end_x= end_y= end_z=",
+        &[
+            short(start.x),
+            short(start.y),
+            short(start.z),
+            short(end.x),
+            short(end.y),
+            short(end.z),
+        ],
+    );
+}
+
 fn line(kind: u8, e: Entity, start: Vector, end: Vector) {
-    byte(b"line type=", kind);
-    entity(b" entity=", e);
-    short(b" start_x=", start.x);
-    short(b" start_y=", start.y);
-    short(b" start_z=", start.z);
-    short(b" end_x=", end.x);
-    short(b" end_y=", end.y);
-    short(b" end_z=", end.z);
+    numbers(b" type= entity=", &[kind as u64, entity(e)]);
+    ends(start, end);
 }
 
 fn point(kind: u8, origin: Vector) {
-    byte(b"point type=", kind);
+    one(b" type=", kind as u64);
     vector(origin);
 }
 
@@ -183,81 +191,96 @@ fn temporary(t: Temporary) {
     }
 }
 
-fn static_thing(l: Look, p: Pose) {
-    say(b"static");
-    thing(l, p);
-}
-
 fn static_sound(origin: Vector, sound: u8, volume: u8, attenuation: u8) {
-    say(b"static_sound");
     vector(origin);
-    byte(b" sound=", sound);
-    byte(b" volume=", volume);
-    byte(b" attenuation=", attenuation);
+    numbers(
+        b" sound= volume= attenuation=",
+        &[sound as u64, volume as u64, attenuation as u64],
+    );
 }
 
 fn track(from: u8, to: u8) {
-    byte(b"track from=", from);
-    byte(b" to=", to);
+    numbers(b" from= to=", &[from as u64, to as u64]);
 }
 
 // ---- messages with a mask
 
 fn source(channel: u8, e: Entity, sound: u8, origin: Vector) {
-    stopsound(b" channel=", channel, e);
-    byte(b" sound=", sound);
+    stopsound(channel, e);
+    one(b" sound=", sound as u64);
     vector(origin);
+}
+
+fn loudness(volume: u8, attenuation: u8) {
+    numbers(
+        b" volume= attenuation=",
+        &[volume as u64, attenuation as u64],
+    );
 }
 
 fn sound(s: Sound) {
     let e = s.entity;
     let origin = s.origin;
-    mask(b"sound mask=", s.mask as u64, 2);
-    byte(b" volume=", s.volume);
-    byte(b" attenuation=", s.attenuation);
+    digits(b" mask=", s.mask as u64, 2);
+    loudness(s.volume, s.attenuation);
     source(s.channel, e, s.sound, origin);
 }
 
 fn filled_sound(s: FilledSound) {
     let e = s.entity;
     let origin = s.origin;
-    byte(b"sound volume=", s.volume);
-    byte(b" attenuation=", s.attenuation);
+    say(b"sound");
+    loudness(s.volume, s.attenuation);
     source(s.channel, e, s.sound, origin);
 }
 
-fn axis(punch_name: &[u8], punch: i8, velocity_name: &[u8], velocity: i8) {
-    char(punch_name, punch);
-    char(velocity_name, velocity);
-}
-
 fn motion(m: Motion) {
-    char(b" view_height=", m.view_height);
-    char(b" pitch=", m.pitch);
-    axis(b" punch0=", m.punch0, b" velocity0=", m.velocity0);
-    axis(b" punch1=", m.punch1, b" velocity1=", m.velocity1);
-    axis(b" punch2=", m.punch2, b" velocity2=", m.velocity2);
+    numbers(
+        b" view_height= pitch= punch0= velocity0= punch1= velocity1= punch2= velocity2=",
+        &[
+            char(m.view_height),
+            char(m.pitch),
+            char(m.punch0),
+            char(m.velocity0),
+            char(m.punch1),
+            char(m.velocity1),
+            char(m.punch2),
+            char(m.velocity2),
+        ],
+    );
 }
 
 fn arms(a: Arms) {
-    byte(b" weapon_frame=", a.weapon_frame);
-    byte(b" armour=", a.armour);
-    byte(b" weapon_model=", a.weapon_model);
+    numbers(
+        b" weapon_frame= armour= weapon_model=",
+        &[
+            a.weapon_frame as u64,
+            a.armour as u64,
+            a.weapon_model as u64,
+        ],
+    );
 }
 
 fn supplies(s: Supplies) {
-    short(b" health=", s.health);
-    byte(b" ammo=", s.ammo);
-    byte(b" count0=", s.count0);
-    byte(b" count1=", s.count1);
-    byte(b" count2=", s.count2);
-    byte(b" count3=", s.count3);
-    byte(b" weapon=", s.weapon);
+    numbers(
+        b" health= ammo= count0= count1= count2= count3= weapon=",
+        &[
+            short(s.health),
+            s.ammo as u64,
+            s.count0 as u64,
+            s.count1 as u64,
+            s.count2 as u64,
+            s.count3 as u64,
+            s.weapon as u64,
+        ],
+    );
 }
 
-fn place(ground: bool, water: bool) {
-    flag(b" ground=", ground);
-    flag(b" water=", water);
+fn place(items: i32, ground: bool, water: bool) {
+    numbers(
+        b" items= ground= water=",
+        &[long(items), bit(ground), bit(water)],
+    );
 }
 
 fn clientdata(c: Clientdata) {
@@ -265,31 +288,31 @@ fn clientdata(c: Clientdata) {
     let a = c.arms;
     let s = c.supplies;
     let bits = c.mask;
-    mask(b"clientdata mask=", wide(bits), 4);
+    digits(b" mask=", bits as u64, 4);
     motion(m);
-    long(b" items=", c.items);
-    place(wire::has(bits, 1024), wire::has(bits, 2048));
+    let ground = wire::has(bits, dem::clientdata::GROUND);
+    let water = wire::has(bits, dem::clientdata::WATER);
+    place(c.items, ground, water);
     arms(a);
     supplies(s);
 }
 
-pub fn client(c: Client) {
+fn client(c: Client) {
     let m = c.motion;
     let a = c.arms;
     let s = c.supplies;
     say(b"clientdata");
     motion(m);
-    long(b" items=", c.items);
-    place(c.ground, c.water);
+    place(c.items, c.ground, c.water);
     arms(a);
     supplies(s);
 }
 
 fn record_fields(l: Look, effects: u8, p: Pose, bit5: bool) {
     look(l);
-    byte(b" effects=", effects);
+    one(b" effects=", effects as u64);
     pose(p);
-    flag(b" bit5=", bit5);
+    one(b" bit5=", bit(bit5));
 }
 
 // Bit 7 of the number is no bit of the mask.
@@ -298,10 +321,11 @@ fn update(u: Update) {
     let l = u.look;
     let p = u.pose;
     let number = u.number;
-    mask(b"update mask=", u.high as u64, 2);
-    mask(b"", (number % 128) as u64, 2);
-    entity(b" entity=", e);
-    record_fields(l, u.effects, p, number / 32 % 2 == 1);
+    digits(b" mask=", u.high as u64, 2);
+    digits(b"", (number % 128) as u64, 2);
+    one(b" entity=", entity(e));
+    let bit5 = wire::has(number as u16, dem::update::RECORD);
+    record_fields(l, u.effects, p, bit5);
 }
 
 pub fn record(r: Record) {
@@ -311,48 +335,128 @@ pub fn record(r: Record) {
 }
 
 fn filled_update(e: Entity, r: Record) {
-    entity(b"update entity=", e);
+    one(b"update entity=", entity(e));
     record(r);
 }
 
 // ---- all of them
 
-pub fn message(m: Message, text: &[u8], by_bytes: bool) {
+fn temporary_name(t: Temporary) -> usize {
+    match t {
+        Temporary::Point(_, _) => 21,
+        Temporary::Line(_, _, _, _) => 22,
+    }
+}
+
+// Which of the names a message's kind has.
+fn name_of(m: Message) -> usize {
     match m {
-        Message::Nop => say(b"nop"),
-        Message::Disconnect => say(b"disconnect"),
-        Message::Stat(i, v) => stat(i, v),
-        Message::Version(v) => long(b"version protocol=", v),
-        Message::View(e) => entity(b"view entity=", e),
+        Message::Nop => 0,
+        Message::Disconnect => 1,
+        Message::Stat(_, _) => 2,
+        Message::Version(_) => 3,
+        Message::View(_) => 4,
+        Message::Sound(_) => 5,
+        Message::Time(_) => 6,
+        Message::Print(_) => 7,
+        Message::Stufftext(_) => 8,
+        Message::SetAngles(_, _, _) => 9,
+        Message::Serverinfo(_) => 10,
+        Message::Style(_, _) => 11,
+        Message::Name(_, _) => 12,
+        Message::Frags(_, _) => 13,
+        Message::Clientdata(_) => 14,
+        Message::Stopsound(_, _) => 15,
+        Message::Colours(_, _) => 16,
+        Message::Particle(_) => 17,
+        Message::Damage(_, _, _) => 18,
+        Message::Static(_, _) => 19,
+        Message::Baseline(_, _, _) => 20,
+        Message::Temporary(t) => temporary_name(t),
+        Message::Pause(_) => 23,
+        Message::Signon(_) => 24,
+        Message::Centerprint(_) => 25,
+        Message::Killed => 26,
+        Message::Secret => 27,
+        Message::StaticSound(_, _, _, _) => 28,
+        Message::Intermission => 29,
+        Message::Finale(_) => 30,
+        Message::Track(_, _) => 31,
+        Message::Sellscreen => 32,
+        Message::Cutscene(_) => 33,
+        Message::Update(_) => 34,
+    }
+}
+
+// The word of a place in a list of words that have a blank behind each.
+fn word_at(words: &[u8], index: usize) {
+    let mut at = 0;
+    let mut i = 0;
+    while at < words.len() {
+        let end = bytes::scan::find(words, at, words.len(), b' ');
+        if i == index {
+            say(&words[at..end]);
+        }
+        at = end + 1;
+        i += 1;
+    }
+}
+
+fn kind(i: usize) {
+    word_at(
+        b"nop disconnect stat version view sound time print stufftext angles serverinfo style name frags clientdata stopsound colours particle damage static baseline point line pause signon centerprint killed secret static_sound intermission finale track sellscreen cutscene update ",
+        i,
+    );
+}
+
+fn view(e: Entity) {
+    one(b" entity=", entity(e));
+}
+
+fn placed(m: Message) {
+    match m {
         Message::Sound(s) => sound(s),
-        Message::Time(t) => bits(b"time time=", t),
-        Message::Print(t) => string(b"print text=", t, text, by_bytes),
-        Message::Stufftext(t) => string(b"stufftext text=", t, text, by_bytes),
+        Message::Clientdata(c) => clientdata(c),
+        Message::Particle(p) => particle(p),
+        Message::Damage(save, take, origin) => damage(save, take, origin),
+        Message::Static(l, p) => thing(l, p),
+        Message::Baseline(e, l, p) => baseline(e, l, p),
+        Message::Temporary(t) => temporary(t),
+        Message::StaticSound(v, a, b, c) => static_sound(v, a, b, c),
+        Message::Update(u) => update(u),
+        _ => {}
+    }
+}
+
+fn numbered(m: Message) {
+    match m {
+        Message::Stat(i, v) => stat(i, v),
+        Message::Version(v) => one(b" protocol=", long(v)),
+        Message::View(e) => view(e),
+        Message::Time(t) => digits(b" time=", t as u64, 8),
         Message::SetAngles(a, b, c) => angles(a, b, c),
+        Message::Frags(p, v) => frags(p, v),
+        Message::Stopsound(channel, e) => stopsound(channel, e),
+        Message::Colours(p, v) => colours(p, v),
+        Message::Pause(v) => one(b" pause=", v as u64),
+        Message::Signon(v) => one(b" signon=", v as u64),
+        Message::Track(from, to) => track(from, to),
+        _ => placed(m),
+    }
+}
+
+fn message(m: Message, text: &[u8], by_bytes: bool) {
+    kind(name_of(m));
+    match m {
+        Message::Print(t) => only_string(t, text, by_bytes),
+        Message::Stufftext(t) => only_string(t, text, by_bytes),
         Message::Serverinfo(s) => serverinfo(s, text, by_bytes),
         Message::Style(i, t) => style(i, t, text, by_bytes),
         Message::Name(p, t) => name(p, t, text, by_bytes),
-        Message::Frags(p, v) => frags(p, v),
-        Message::Clientdata(c) => clientdata(c),
-        Message::Stopsound(channel, e) => stopsound(b"stopsound channel=", channel, e),
-        Message::Colours(p, v) => colours(p, v),
-        Message::Particle(p) => particle(p),
-        Message::Damage(save, take, origin) => damage(save, take, origin),
-        Message::Static(l, p) => static_thing(l, p),
-        Message::Baseline(e, l, p) => baseline(e, l, p),
-        Message::Temporary(t) => temporary(t),
-        Message::Pause(v) => byte(b"pause pause=", v),
-        Message::Signon(v) => byte(b"signon signon=", v),
-        Message::Centerprint(t) => string(b"centerprint text=", t, text, by_bytes),
-        Message::Killed => say(b"killed"),
-        Message::Secret => say(b"secret"),
-        Message::StaticSound(v, a, b, c) => static_sound(v, a, b, c),
-        Message::Intermission => say(b"intermission"),
-        Message::Finale(t) => string(b"finale text=", t, text, by_bytes),
-        Message::Track(from, to) => track(from, to),
-        Message::Sellscreen => say(b"sellscreen"),
-        Message::Cutscene(t) => string(b"cutscene text=", t, text, by_bytes),
-        Message::Update(u) => update(u),
+        Message::Centerprint(t) => only_string(t, text, by_bytes),
+        Message::Finale(t) => only_string(t, text, by_bytes),
+        Message::Cutscene(t) => only_string(t, text, by_bytes),
+        _ => numbered(m),
     }
 }
 
@@ -370,7 +474,7 @@ fn filled(f: Filled, text: &[u8]) {
     }
 }
 
-pub fn found(m: Message, f: Filled, next: usize, text: &[u8]) {
+fn found(m: Message, f: Filled, next: usize, text: &[u8]) {
     count(b"  found next ", next);
     say(b"\n  sent ");
     message(m, text, false);

@@ -8,20 +8,13 @@ use message::Pose;
 use message::Time;
 use message::Vector;
 
-// What stands where no byte is.
-const NO_BYTE: u64 = 256;
-
 pub fn say(text: &[u8]) {
     io::write_all(1, text);
 }
 
-pub fn number(v: u64) {
-    io::print_decimal(1, v);
-}
-
 pub fn count(name: &[u8], v: usize) {
     say(name);
-    number(v as u64);
+    io::print_decimal(1, v as u64);
 }
 
 pub fn refused(refusal: u8, place: usize) {
@@ -29,7 +22,8 @@ pub fn refused(refusal: u8, place: usize) {
     count(b" at ", place);
 }
 
-fn hex(v: u64, width: usize) {
+pub fn digits(name: &[u8], v: u64, width: usize) {
+    say(name);
     io::print_hex(1, v, width);
 }
 
@@ -37,138 +31,117 @@ fn wide(b: u8) -> u64 {
     b as u64
 }
 
-fn byte_at(b: &[u8], i: usize) -> u64 {
-    if i < b.len() {
-        return wide(b[i]);
-    }
-    NO_BYTE
-}
-
-fn byte_before(b: &[u8], i: usize, back: usize) -> u64 {
-    if back <= i {
-        return byte_at(b, i - back);
-    }
-    NO_BYTE
-}
-
 fn show_byte(b: &[u8], i: usize) {
-    hex(byte_at(b, i), 2);
+    if i < b.len() {
+        io::print_hex(1, wide(b[i]), 2);
+    }
 }
 
 // The first bytes.
-pub fn bytes(b: &[u8], count: usize) {
+pub fn hex(b: &[u8], count: usize) {
     for i in 0..count {
         show_byte(b, i);
     }
 }
 
-fn show_change(b: &[u8], i: usize) {
-    let this = byte_at(b, i);
-    if this != byte_before(b, i, 2) {
-        count(b" ", i);
-        say(b":");
-        hex(this, 2);
-    }
-}
+// What a signed number is as one of 64 bits: of one below zero, its size behind this.
+const BELOW_ZERO: u64 = 4294967296;
 
-// The first bytes in a short form: each place whose byte is not the one two places before it, with its byte.
-pub fn changes(b: &[u8], count: usize) {
-    for i in 0..count {
-        show_change(b, i);
-    }
-}
-
-pub fn byte(name: &[u8], v: u8) {
-    say(name);
-    number(wide(v));
-}
-
-// A number below zero by its bits, of which there are so many.
-fn minus(bits: u64, all: u64) {
-    if bits < all {
-        say(b"-");
-        number(all - bits);
-    }
-}
-
-pub fn char(name: &[u8], v: i8) {
-    say(name);
-    let bits = wide(pieces::unsigned8(v));
+pub fn char(v: i8) -> u64 {
+    let bits = pieces::unsigned8(v) as u64;
     if v < 0 {
-        minus(bits, 256);
-    } else {
-        number(bits);
+        return BELOW_ZERO + 256 - bits;
     }
+    bits
 }
 
-pub fn word(name: &[u8], v: u16) {
-    say(name);
-    number(v as u64);
-}
-
-pub fn short(name: &[u8], v: i16) {
-    say(name);
+pub fn short(v: i16) -> u64 {
     let bits = pieces::unsigned16(v) as u64;
     if v < 0 {
-        minus(bits, 65536);
-    } else {
-        number(bits);
+        return BELOW_ZERO + 65536 - bits;
     }
+    bits
 }
 
-pub fn long(name: &[u8], v: i32) {
-    say(name);
+pub fn long(v: i32) -> u64 {
     let bits = pieces::unsigned32(v) as u64;
     if v < 0 {
-        minus(bits, 4294967296);
+        return BELOW_ZERO + 4294967296 - bits;
+    }
+    bits
+}
+
+pub fn bit(set: bool) -> u64 {
+    if set {
+        return 1;
+    }
+    0
+}
+
+pub fn decimal(v: u64) {
+    if v < BELOW_ZERO {
+        io::print_decimal(1, v);
     } else {
-        number(bits);
+        say(b"-");
+        io::print_decimal(1, v - BELOW_ZERO);
     }
 }
 
-pub fn bits(name: &[u8], v: u32) {
-    say(name);
-    hex(v as u64, 8);
+// The name from a place on, up to its equals sign, and its value; the place behind the name.
+fn field(names: &[u8], at: usize, v: u64) -> usize {
+    if at < names.len() {
+        let end = bytes::scan::find(names, at, names.len(), b'=');
+        say(&names[at..end]);
+        say(b"=");
+        decimal(v);
+        return end + 1;
+    }
+    at
 }
 
-pub fn mask(name: &[u8], v: u64, width: usize) {
-    say(name);
-    hex(v, width);
+// Numbers, each behind its name; the names stand one behind the other, each with its equals sign.
+pub fn numbers(names: &[u8], values: &[u64]) {
+    let mut at = 0;
+    let mut i = 0;
+    while i < values.len() {
+        at = field(names, at, values[i]);
+        i += 1;
+    }
 }
 
 pub fn time(t: Time) {
     match t {
         Time::None => say(b" time=none"),
-        Time::At(v) => bits(b" time=", v),
-    }
-}
-
-pub fn flag(name: &[u8], set: bool) {
-    if set {
-        byte(name, 1);
-    } else {
-        byte(name, 0);
+        Time::At(v) => digits(b" time=", v as u64, 8),
     }
 }
 
 pub fn vector(v: Vector) {
-    short(b" x=", v.x);
-    short(b" y=", v.y);
-    short(b" z=", v.z);
+    numbers(b" x= y= z=", &[short(v.x), short(v.y), short(v.z)]);
 }
 
 pub fn look(l: Look) {
-    byte(b" model=", l.model);
-    byte(b" frame=", l.frame);
-    byte(b" colormap=", l.colormap);
-    byte(b" skin=", l.skin);
+    numbers(
+        b" model= frame= colormap= skin=",
+        &[
+            l.model as u64,
+            l.frame as u64,
+            l.colormap as u64,
+            l.skin as u64,
+        ],
+    );
 }
 
 pub fn pose(p: Pose) {
-    short(b" x=", p.x);
-    char(b" angle0=", p.angle0);
-    short(b" y=", p.y);
-    char(b" angle1=", p.angle1);
-    short(b" z=", p.z);
-    char(b" angle2=", p.angle2);
+    numbers(
+        b" x= angle0= y= angle1= z= angle2=",
+        &[
+            short(p.x),
+            char(p.angle0),
+            short(p.y),
+            char(p.angle1),
+            short(p.z),
+            char(p.angle2),
+        ],
+    );
 }

@@ -1,13 +1,20 @@
-// A scene but for its time, its clientdata and its baselines: the single values, then every stat, player line and marked record that is not
-// as at the start.
-use crate::byte;
+// A scene but for its clientdata and its baselines: the single values, then every stat, player line and marked record that is not as at the
+// start; and the baseline and the record of one entity.
+use crate::bit;
 use crate::count;
+use crate::decimal;
 use crate::fields;
-use crate::flag;
 use crate::long;
+use crate::look;
+use crate::numbers;
+use crate::pose;
 use crate::say;
 use crate::short;
-use crate::word;
+use crate::time;
+use dem::limit::ENTITY_COUNT;
+use dem::limit::PLAYER_COUNT;
+use dem::limit::STAT_COUNT;
+use scene::Baseline;
 use scene::PlayerLine;
 use scene::Record;
 use scene::Rest;
@@ -15,29 +22,38 @@ use scene::Scene;
 
 fn single(rest: Rest) {
     let view = rest.view;
-    flag(b"  scene ended=", rest.ended);
-    byte(b" limit=", rest.limit);
-    word(b" view=", view.0);
-    byte(b" pause=", rest.pause);
-    byte(b" statics=", rest.statics);
+    let latest = rest.time;
+    numbers(b"  scene ended=", &[bit(rest.ended)]);
+    time(latest);
+    numbers(
+        b" limit= view= pause= statics=",
+        &[
+            rest.limit as u64,
+            view.0 as u64,
+            rest.pause as u64,
+            rest.statics as u64,
+        ],
+    );
 }
 
 fn stat(i: usize, v: i32) {
     if v != 0 {
         count(b" stat ", i);
-        long(b"=", v);
+        numbers(b"=", &[long(v)]);
     }
 }
 
-fn stats(values: [i32; 32]) {
-    for i in 0..32 {
+fn stats(values: [i32; STAT_COUNT]) {
+    for i in 0..STAT_COUNT {
         stat(i, values[i]);
     }
 }
 
 pub fn line(l: PlayerLine) {
-    short(b" ", l.frags);
-    byte(b"/", l.colours);
+    say(b" ");
+    decimal(short(l.frags));
+    say(b"/");
+    decimal(l.colours as u64);
 }
 
 fn player(i: usize, l: PlayerLine) {
@@ -47,8 +63,8 @@ fn player(i: usize, l: PlayerLine) {
     }
 }
 
-fn players(lines: [PlayerLine; 16]) {
-    for i in 0..16 {
+fn players(lines: [PlayerLine; PLAYER_COUNT]) {
+    for i in 0..PLAYER_COUNT {
         player(i, lines[i]);
     }
 }
@@ -61,7 +77,7 @@ fn record(i: usize, r: Record, present: bool) {
 }
 
 fn records(s: Scene) {
-    for i in 0..449 {
+    for i in 0..ENTITY_COUNT {
         record(i, s.records[i], s.present[i]);
     }
 }
@@ -75,4 +91,25 @@ pub fn show(s: Scene) {
     players(lines);
     records(s);
     say(b"\n");
+}
+
+fn baseline(b: Baseline) {
+    let l = b.look;
+    let p = b.pose;
+    say(b"  baseline");
+    look(l);
+    pose(p);
+}
+
+fn one_record(r: Record, present: bool) {
+    numbers(b"\n  record present=", &[bit(present)]);
+    fields::record(r);
+    say(b"\n");
+}
+
+pub fn entity(s: Scene, i: usize) {
+    if i < ENTITY_COUNT {
+        baseline(s.baselines[i]);
+        one_record(s.records[i], s.present[i]);
+    }
 }

@@ -32,8 +32,8 @@ use denote.Triple.Spec.{tripleOf}
 use denote.Triple.Statement.{Contract}
 use Rattle.scene.specs.declared.Scene.{Scene}
 use Rattle.scene.proofs.Scene as S
-use Rattle.cobbrundle.specs.declared.MessageReply.{MessageReply}
-use Rattle.cobbrundle.proofs.MessageReply as Y
+use Rattle.dem_messages.specs.declared.MessageReply.{MessageReply}
+use Rattle.dem_messages.proofs.MessageReply as Y
 use Rattle.walker.specs.declared.Walker.{Walker}
 use Rattle.walker.proofs.Walker as T
 use Rattle.walker.proofs.Walker.Laws as T′

@@ -1,5 +1,5 @@
 // A walker that is held in a local: what it hands out, step by step.
-use cobbrundle::MessageReply;
+use dem_messages::MessageReply;
 use scene::Scene;
 
 // Shows what a step handed out and the place where it left the walker, and hands on the scene.

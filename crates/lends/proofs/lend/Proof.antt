@@ -50,9 +50,9 @@ use Rattle.scene.proofs.PlayerLine.Laws as T′
 use Rattle.scene.specs.declared.Scene.{Scene}
 use Rattle.scene.proofs.Scene as S
 use Rattle.scene.proofs.Scene.Laws as S′
-use Rattle.cobbrundle.specs.declared.MessageReply.{MessageReply}
-use Rattle.cobbrundle.proofs.MessageReply as Y
-use Rattle.cobbrundle.proofs.MessageReply.Laws as Y′
+use Rattle.dem_messages.specs.declared.MessageReply.{MessageReply}
+use Rattle.dem_messages.proofs.MessageReply as Y
+use Rattle.dem_messages.proofs.MessageReply.Laws as Y′
 use Rattle.lines.specs.declared.LineChange.{LineChange}
 use Rattle.lines.specs.declared.LinesAnswer.{LinesAnswer}
 use Rattle.lines.proofs.LineChange as G

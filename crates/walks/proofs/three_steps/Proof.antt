@@ -41,9 +41,9 @@ use denote.Exit.{yes}
 use Rattle.scene.specs.declared.Scene.{Scene}
 use Rattle.scene.proofs.Scene as S
 use Rattle.scene.proofs.Scene.Laws as S′
-use Rattle.cobbrundle.specs.declared.MessageReply.{MessageReply}
-use Rattle.cobbrundle.proofs.MessageReply as Y
-use Rattle.cobbrundle.proofs.MessageReply.Laws as Y′
+use Rattle.dem_messages.specs.declared.MessageReply.{MessageReply}
+use Rattle.dem_messages.proofs.MessageReply as Y
+use Rattle.dem_messages.proofs.MessageReply.Laws as Y′
 use Rattle.walker.specs.declared.Walker.{Walker}
 use Rattle.walker.proofs.Walker.Laws as T′
 use Rattle.walker.proofs.walk as make

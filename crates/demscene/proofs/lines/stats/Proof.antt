@@ -7,10 +7,10 @@ use Rattle.demscene.proofs.lines.stats.Statement.{statement}
 use Rattle.demscene.proofs.lines.stats.Tie as tie
 
 abbrev Inv-loop : tie.InvT-loop
-Inv-loop out₀ at values end₀ i₀ t8 out end i = length out ≡ length out₀
+Inv-loop out₀ at values end₀ i₀ out end i = length out ≡ length out₀
 
 abbrev μ-loop : tie.MeasureT-loop
-μ-loop out₀ at values end₀ i₀ t8 out end i = 32 - i
+μ-loop out₀ at values end₀ i₀ out end i = 32 - i
 
 slice-aggregate-put : tie.Need-slice-aggregate-put Inv-loop μ-loop
 slice-aggregate-put c = search needs
@@ -21,17 +21,14 @@ put-requires c κs = search needs
 loop-holds : tie.Need-loop-holds Inv-loop μ-loop
 loop-holds c = search needs
 
-slice-aggregate-long : tie.Need-slice-aggregate-long Inv-loop μ-loop
-slice-aggregate-long c = search needs
+mul-stat : tie.Need-mul-stat Inv-loop μ-loop
+mul-stat c = search needs
 
-mul-long : tie.Need-mul-long Inv-loop μ-loop
-mul-long c = search needs
+array-copy-out-stat : tie.Need-array-copy-out-stat Inv-loop μ-loop
+array-copy-out-stat c = search needs
 
-array-copy-out-long : tie.Need-array-copy-out-long Inv-loop μ-loop
-array-copy-out-long c = search needs
-
-long-requires : tie.Need-long-requires Inv-loop μ-loop
-long-requires c κs = search needs
+stat-requires : tie.Need-stat-requires Inv-loop μ-loop
+stat-requires c κs = search needs
 
 add-i : tie.Need-add-i Inv-loop μ-loop
 add-i c = search needs
@@ -57,10 +54,9 @@ stats-spec =
     slice-aggregate-put
     put-requires
     loop-holds
-    slice-aggregate-long
-    mul-long
-    array-copy-out-long
-    long-requires
+    mul-stat
+    array-copy-out-stat
+    stat-requires
     add-i
     loop-less
     loop-again

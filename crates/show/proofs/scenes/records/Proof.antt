@@ -1,14 +1,15 @@
 -- `show::scenes::records` ends. Assumes nothing.
 use Prim.Native.Nat.{_-_, _≤_}
 use borrow.Author.Needs.{needs}
+use Rattle.dem.specs.Limits.{entityCount}
 use Rattle.show.proofs.scenes.records.Statement.{statement}
 use Rattle.show.proofs.scenes.records.Tie as tie
 
 abbrev Inv-loop : tie.InvT-loop
-Inv-loop s i₀ i = i ≤ 449
+Inv-loop s i₀ i = i ≤ entityCount
 
 abbrev μ-loop : tie.MeasureT-loop
-μ-loop s i₀ i = 449 - i
+μ-loop s i₀ i = entityCount - i
 
 loop-holds : tie.Need-loop-holds Inv-loop μ-loop
 loop-holds c = search needs

@@ -1,10 +1,10 @@
--- `show::bytes` ends.
+-- `show::hex` ends.
 -- Assumes nothing.
 use Prim.Native.Nat.{_-_, _≤_}
 use native.Mathlib.Omega.{arith}
 use borrow.Author.Needs.{needs}
-use Rattle.show.proofs.bytes.Statement.{statement}
-use Rattle.show.proofs.bytes.Tie as tie
+use Rattle.show.proofs.hex.Statement.{statement}
+use Rattle.show.proofs.hex.Tie as tie
 
 abbrev Inv-loop : tie.InvT-loop
 Inv-loop b count i₀ i = i ≤ count
@@ -30,5 +30,5 @@ loop-again c = omega arith
 returns : tie.Need-returns Inv-loop μ-loop
 returns c = search needs
 
-pub bytes-spec : {M : Type 1} → statement M
-bytes-spec = tie.close (tie.spec Inv-loop μ-loop loop-holds show-byte-requires add-i loop-less loop-again returns)
+pub hex-spec : {M : Type 1} → statement M
+hex-spec = tie.close (tie.spec Inv-loop μ-loop loop-holds show-byte-requires add-i loop-less loop-again returns)

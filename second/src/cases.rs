@@ -1,5 +1,5 @@
 //! Cases, a line each: what single calls answer, in the form of the proved
-//! program that reads the same lines (`crates/cases/src/main.rt` has the letters).
+//! program that reads the same lines (`crates/run_cases/src/main.rt` has the letters).
 
 use crate::message::*;
 use crate::read::{read_block, read_message, read_track, Block, Step};

@@ -10,8 +10,8 @@ use Rattle.dem.specs.Scene.{fresh}
 use Rattle.dem.specs.Answer.{trackAt, trackNormal}
 use Rattle.dem.proofs.CallLaws.{track-told}
 use Rattle.dem.proofs.NormalCallLaws.{normal-track-within}
-use Rattle.scene.specs.declared.Scene.{Scene}
-use Rattle.scene.specs.Views.{sceneOf}
+use Rattle.dem_scene.specs.declared.Scene.{Scene}
+use Rattle.dem_scene.specs.Views.{sceneOf}
 use Rattle.dem_recordings.specs.Replies.{trackAnswerOf, trackWrittenOf}
 use Rattle.cobbrundle.specs.Calls.{Outcome, toEnd, toRefusal, ReadsMessage, MessageCall, MessageCalls, noMessage, messageRefused, nextMessage}
 use Rattle.cobbrundle.specs.Calls.{ReadsBlock, BlockCall, bytesOf, BlockCalls, noBlock, blockRefused, withinRefused, nextBlock}

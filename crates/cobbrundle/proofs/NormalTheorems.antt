@@ -28,8 +28,8 @@ use Rattle.dem.proofs.AnswerLaws.{normal-accepted, normal-refused}
 use Rattle.format.proofs.NormalCallLaws.{WroteItem, normal-end-told, normal-refusal-told, normal-found-told, AllWritten, NoneWritten, written-end}
 use Rattle.format.proofs.NormalCallLaws.{none-written, written-first, none-behind}
 use Rattle.dem.proofs.NormalCallLaws.{NormalWritten, NormalUnwritten, normal-written, normal-unwritten, normal-track-within, normal-no-track}
-use Rattle.scene.specs.declared.Scene.{Scene as Held}
-use Rattle.scene.specs.Views.{sceneOf}
+use Rattle.dem_scene.specs.declared.Scene.{Scene as Held}
+use Rattle.dem_scene.specs.Views.{sceneOf}
 use Rattle.dem_messages.specs.Replies.{countOf, writtenOf}
 use Rattle.cobbrundle.specs.Calls.{Outcome, toEnd, toRefusal, WritesBlock, NormalCalls, noForm, formRefused, nextForm}
 use Rattle.cobbrundle.specs.Calls.{NormalRecordingCalls, lineRefused, behindLine}

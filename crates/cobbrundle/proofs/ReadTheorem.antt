@@ -37,9 +37,9 @@ use Rattle.dem.proofs.SceneLaws.{Shaped, fresh-shaped, apply-shaped, block-shap
 use Rattle.format.proofs.CallLaws.{FoundItem, taken, end-told, refusal-told, found-told, all-end, all-refused, all-found}
 use Rattle.dem.proofs.CallLaws.{outline-end, outline-refused, outline-found, block-body, track-told, track-refusal-told, recording-blocks}
 use Rattle.dem.proofs.CallLaws.{reading-found, reading-refused, reading-no-track}
-use Rattle.scene.specs.declared.Scene.{Scene}
-use Rattle.scene.specs.Views.{baselineNumbers, recordNumbers, sceneWith, sceneOf}
-use Rattle.scene.proofs.Scene as SceneType
+use Rattle.dem_scene.specs.declared.Scene.{Scene}
+use Rattle.dem_scene.specs.Views.{baselineNumbers, recordNumbers, sceneWith, sceneOf}
+use Rattle.dem_scene.proofs.Scene as SceneType
 use Rattle.dem_messages.specs.Replies.{countOf, writtenOf}
 use Rattle.dem_recordings.specs.Replies.{outlineOf}
 use Rattle.cobbrundle.specs.Calls.{Outcome, toEnd, toRefusal, ReadsMessage, MessageCall, MessageCalls, noMessage, messageRefused, nextMessage}

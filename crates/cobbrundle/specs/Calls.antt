@@ -11,12 +11,12 @@ use Rattle.dem.specs.Message.{Message as Values}
 use Rattle.dem.specs.Recording.{Block, blockOf, blocks, Reading, normalBlock}
 use Rattle.format.specs.Answer.{normalAt}
 use Rattle.dem.specs.Answer.{messageAt, outlineAt, trackAt, trackNormal}
-use Rattle.message.specs.Places.{valuesTo}
-use Rattle.message.specs.declared.Message.{Message}
-use Rattle.message.specs.Values.{valuesOf}
-use Rattle.scene.specs.declared.Scene.{Scene}
-use Rattle.scene.specs.declared.Filled.{Filled}
-use Rattle.scene.specs.Views.{sceneOf, filledBy}
+use Rattle.dem_types.specs.Places.{valuesTo}
+use Rattle.dem_types.specs.declared.Message.{Message}
+use Rattle.dem_types.specs.Values.{valuesOf}
+use Rattle.dem_scene.specs.declared.Scene.{Scene}
+use Rattle.dem_scene.specs.declared.Filled.{Filled}
+use Rattle.dem_scene.specs.Views.{sceneOf, filledBy}
 use Rattle.dem_messages.specs.Replies.{replyOf, normalReplyOf}
 use Rattle.dem_recordings.specs.Replies.{outlineOf, blockReplyOf, trackAnswerOf, trackWrittenOf}
 use Rattle.dem_messages.specs.declared.MessageAnswer.{MessageAnswer}

@@ -14,10 +14,10 @@ use Rattle.dem.specs.Answer.{messageAt, writeSent}
 use Rattle.format.proofs.GivenLaws.{GivenBack, given-through, Replied, Wrote, item-given, form-given}
 use Rattle.dem.proofs.GivenLaws.{sent-given}
 use Rattle.wire.proofs.FieldLaws.{Held}
-use Rattle.scene.specs.declared.Scene.{Scene}
-use Rattle.scene.specs.Views.{sceneOf}
-use Rattle.scene.proofs.Scene as SceneType
-use Rattle.scene.proofs.Back.{scene-fixed}
+use Rattle.dem_scene.specs.declared.Scene.{Scene}
+use Rattle.dem_scene.specs.Views.{sceneOf}
+use Rattle.dem_scene.proofs.Scene as SceneType
+use Rattle.dem_scene.proofs.Back.{scene-fixed}
 use Rattle.dem_messages.specs.Replies.{answerOf, replyOf, countOf, writtenOf, normalAnswerOf, normalReplyOf}
 use Rattle.dem_messages.specs.declared.MessageReply.{MessageReply}
 use Rattle.dem_messages.specs.declared.WriteReply.{WriteReply}

@@ -28,26 +28,26 @@ use Rattle.format.proofs.LayoutLaws.{field-length}
 use Rattle.dem.proofs.MessageLaws.{fill-update, fill-client}
 use Rattle.wire.specs.Cursors.{placed}
 use Rattle.wire.specs.declared.Text.{Text}
-use Rattle.message.proofs.Message as Messages
-use Rattle.message.specs.declared.Message.{Message as Sent}
-use Rattle.message.specs.declared.Message.the-variants as M
-use Rattle.message.specs.declared.Clientdata.{Clientdata}
-use Rattle.message.specs.declared.Sound.{Sound}
-use Rattle.message.specs.declared.Update.{Update}
-use Rattle.message.specs.Places.{valuesTo}
-use Rattle.message.specs.Values.{valuesOf, valuesBy, soundValues, updateValues, clientValues as sentClientValues}
-use Rattle.scene.specs.Views.{Numbered, baselineNumbers, recordValues, clientValues, filledSoundValues, sceneOf, filledBy}
-use Rattle.scene.specs.declared.Baseline.{Baseline}
-use Rattle.scene.specs.declared.Client.{Client}
-use Rattle.scene.specs.declared.Filled.{Filled}
-use Rattle.scene.specs.declared.FilledSound.{FilledSound}
-use Rattle.scene.specs.declared.Record.{Record}
-use Rattle.scene.specs.declared.Scene.{Scene as Held}
-use Rattle.normal.specs.Put.{Put}
-use Rattle.normal.specs.Normal.{soundOf, soundBytes}
-use Rattle.effects.proofs.Tables.{not-among}
-use Rattle.normal.proofs.OtherForm.{Unmasked, other-form}
-use Rattle.normal.proofs.SoundBytes.{no-sound, sound-sent}
+use Rattle.dem_types.proofs.Message as Messages
+use Rattle.dem_types.specs.declared.Message.{Message as Sent}
+use Rattle.dem_types.specs.declared.Message.the-variants as M
+use Rattle.dem_types.specs.declared.Clientdata.{Clientdata}
+use Rattle.dem_types.specs.declared.Sound.{Sound}
+use Rattle.dem_types.specs.declared.Update.{Update}
+use Rattle.dem_types.specs.Places.{valuesTo}
+use Rattle.dem_types.specs.Values.{valuesOf, valuesBy, soundValues, updateValues, clientValues as sentClientValues}
+use Rattle.dem_scene.specs.Views.{Numbered, baselineNumbers, recordValues, clientValues, filledSoundValues, sceneOf, filledBy}
+use Rattle.dem_scene.specs.declared.Baseline.{Baseline}
+use Rattle.dem_scene.specs.declared.Client.{Client}
+use Rattle.dem_scene.specs.declared.Filled.{Filled}
+use Rattle.dem_scene.specs.declared.FilledSound.{FilledSound}
+use Rattle.dem_scene.specs.declared.Record.{Record}
+use Rattle.dem_scene.specs.declared.Scene.{Scene as Held}
+use Rattle.dem_normal.specs.Put.{Put}
+use Rattle.dem_normal.specs.Normal.{soundOf, soundBytes}
+use Rattle.dem_effects.proofs.Tables.{not-among}
+use Rattle.dem_normal.proofs.OtherForm.{Unmasked, other-form}
+use Rattle.dem_normal.proofs.SoundBytes.{no-sound, sound-sent}
 use Rattle.format.proofs.ResultLaws.{clash}
 use Rattle.dem_messages.specs.Replies.{answerOf, replyOf}
 use Rattle.dem_messages.specs.declared.MessageAnswer.{MessageAnswer}

@@ -17,19 +17,19 @@ use Rattle.dem.specs.Answer.{messageAt}
 use Rattle.format.proofs.LayoutLaws.{allows→}
 use Rattle.wire.specs.Cursors.{placed}
 use Rattle.wire.proofs.FieldLaws.{Held}
-use Rattle.message.specs.declared.Message.{Message}
-use Rattle.message.specs.Values.{valuesOf}
-use Rattle.message.specs.Places.{valuesTo}
-use Rattle.message.proofs.InPlace.{in-place, placed-values}
-use Rattle.message.proofs.Message as MessageType
-use Rattle.message.proofs.Back.{messageFrom, Read, message-back}
-use Rattle.scene.specs.declared.Filled.{Filled}
-use Rattle.scene.specs.declared.Filled.the-variants as F
-use Rattle.scene.specs.Views.{filledBy}
-use Rattle.scene.proofs.Filled as FilledType
-use Rattle.scene.proofs.Filled.Laws as FilledLaws
-use Rattle.scene.proofs.FilledBack.{plain-sent, fill-some, filledFrom, ReadPlain, filled-back}
-use Rattle.reader.proofs.Readings.{message-some}
+use Rattle.dem_types.specs.declared.Message.{Message}
+use Rattle.dem_types.specs.Values.{valuesOf}
+use Rattle.dem_types.specs.Places.{valuesTo}
+use Rattle.dem_types.proofs.InPlace.{in-place, placed-values}
+use Rattle.dem_types.proofs.Message as MessageType
+use Rattle.dem_types.proofs.Back.{messageFrom, Read, message-back}
+use Rattle.dem_scene.specs.declared.Filled.{Filled}
+use Rattle.dem_scene.specs.declared.Filled.the-variants as F
+use Rattle.dem_scene.specs.Views.{filledBy}
+use Rattle.dem_scene.proofs.Filled as FilledType
+use Rattle.dem_scene.proofs.Filled.Laws as FilledLaws
+use Rattle.dem_scene.proofs.FilledBack.{plain-sent, fill-some, filledFrom, ReadPlain, filled-back}
+use Rattle.dem_reader.proofs.Readings.{message-some}
 use Rattle.dem_messages.specs.Replies.{answerOf}
 use Rattle.dem_messages.specs.declared.MessageAnswer.{MessageAnswer}
 use Rattle.dem_messages.specs.declared.MessageAnswer.the-variants.{Found, End, Refused}

@@ -24,13 +24,13 @@ use Rattle.format.proofs.AnswerLaws.{item-wrong, item-end, item-past, item-at, 
 use Rattle.wire.specs.Cursors.{gotten, parseAt}
 use Rattle.wire.specs.declared.Cursor.{Cursor}
 use Rattle.wire.proofs.Sticky.{here}
-use Rattle.message.specs.declared.Message.{Message as Sent}
-use Rattle.message.specs.Values.{valuesOf}
-use Rattle.message.specs.Places.{valuesTo}
-use Rattle.message.proofs.InPlace.{some-values}
-use Rattle.scene.specs.declared.Filled.{Filled}
-use Rattle.scene.specs.Views.{sceneOf, filledBy}
-use Rattle.reader.proofs.Readings.{message-some, message-ended, message-found, message-refused}
+use Rattle.dem_types.specs.declared.Message.{Message as Sent}
+use Rattle.dem_types.specs.Values.{valuesOf}
+use Rattle.dem_types.specs.Places.{valuesTo}
+use Rattle.dem_types.proofs.InPlace.{some-values}
+use Rattle.dem_scene.specs.declared.Filled.{Filled}
+use Rattle.dem_scene.specs.Views.{sceneOf, filledBy}
+use Rattle.dem_reader.proofs.Readings.{message-some, message-ended, message-found, message-refused}
 use Rattle.dem_messages.specs.Replies.{answerOf, replyOf}
 use Rattle.dem_messages.specs.declared.MessageAnswer.{MessageAnswer}
 use Rattle.dem_messages.specs.declared.MessageAnswer.the-variants.{Found}

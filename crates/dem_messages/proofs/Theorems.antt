@@ -15,12 +15,12 @@ use Rattle.dem.specs.Answer.{messageAt, writeSent}
 use Rattle.format.proofs.ByteLaws.{drop-bytes}
 use Rattle.format.proofs.CodecLaws.{Taken}
 use Rattle.dem.proofs.BlockLaws.{message-lawful}
-use Rattle.message.specs.declared.Message.{Message}
-use Rattle.message.specs.Places.{valuesTo}
-use Rattle.message.specs.Values.{valuesOf}
-use Rattle.scene.specs.declared.Scene.{Scene}
-use Rattle.scene.specs.declared.Filled.{Filled}
-use Rattle.scene.specs.Views.{sceneOf, filledBy}
+use Rattle.dem_types.specs.declared.Message.{Message}
+use Rattle.dem_types.specs.Places.{valuesTo}
+use Rattle.dem_types.specs.Values.{valuesOf}
+use Rattle.dem_scene.specs.declared.Scene.{Scene}
+use Rattle.dem_scene.specs.declared.Filled.{Filled}
+use Rattle.dem_scene.specs.Views.{sceneOf, filledBy}
 use Rattle.dem_messages.specs.Replies.{replyOf, countOf, writtenOf}
 use Rattle.dem_messages.specs.declared.MessageAnswer.the-variants.{Found}
 use Rattle.dem_messages.specs.declared.MessageReply.{MessageReply}

@@ -17,12 +17,12 @@ use Rattle.dem.specs.Answer.{writeSent}
 use Rattle.format.proofs.LayoutLaws.{Allowed, allows→}
 use Rattle.wire.specs.declared.Text.{Text}
 use Rattle.wire.specs.Cursors.{textIn, placed}
-use Rattle.message.specs.declared.Message.{Message as Sent}
-use Rattle.message.specs.declared.Message.the-variants as M
-use Rattle.message.specs.Values.{valuesBy}
-use Rattle.scene.specs.Views.{Numbered}
+use Rattle.dem_types.specs.declared.Message.{Message as Sent}
+use Rattle.dem_types.specs.declared.Message.the-variants as M
+use Rattle.dem_types.specs.Values.{valuesBy}
+use Rattle.dem_scene.specs.Views.{Numbered}
 use Rattle.dem.proofs.ShapeLaws.{update-numbered}
-use Rattle.pieces.specs.Texts.{TextsOf}
+use Rattle.dem_writer.specs.Texts.{TextsOf}
 
 -- ---- what is allowed
 

@@ -4,8 +4,8 @@ use Prim.Native.Nat.{ℕ}
 use Rattle.dem.specs.Scene.{Scene as Described}
 use Rattle.dem.specs.Message.{Message as Values}
 use Rattle.format.specs.Answer.{Answer, result, atEnd, refusal, Item, Reply, reply, Written, written, Normalised}
-use Rattle.message.specs.Places.{valuesTo}
-use Rattle.scene.specs.Views.{sceneOf, filledBy}
+use Rattle.dem_types.specs.Places.{valuesTo}
+use Rattle.dem_scene.specs.Views.{sceneOf, filledBy}
 use Rattle.dem_messages.specs.declared.MessageAnswer.{MessageAnswer}
 use Rattle.dem_messages.specs.declared.MessageAnswer.the-variants.{Found, End, Refused}
 use Rattle.dem_messages.specs.declared.MessageReply.{MessageReply}

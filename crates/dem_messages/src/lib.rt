@@ -11,19 +11,19 @@ ghost use Rattle.dem.specs.Message.{normal as normalMessage};
 ghost use Rattle.dem.specs.Recording.{writeMessage, messages};
 ghost use Rattle.format.specs.Answer.{reply, result, intoRoom, normalAt};
 ghost use Rattle.dem.specs.Answer.{messageAt, writeSent};
-ghost use Rattle.scene.specs.Views.{sceneOf, Numbered};
-ghost use Rattle.message.specs.Values.{valuesBy};
+ghost use Rattle.dem_scene.specs.Views.{sceneOf, Numbered};
+ghost use Rattle.dem_types.specs.Values.{valuesBy};
 ghost use Rattle.wire.specs.Cursors.{placed};
 ghost use Rattle.wire.specs.declared.Text.{Text};
 ghost use Rattle.dem_messages.specs.Replies.{replyOf, writtenOf, normalReplyOf};
+use dem_scene::Filled;
+use dem_scene::Scene;
+use dem_types::Message;
 use format::refusal::AFTER_DISCONNECT;
 use format::refusal::CUT_MESSAGE;
 use format::refusal::SHORT_ROOM;
 use format::refusal::UNREADABLE;
 use format::refusal::WRONG_SCENE;
-use message::Message;
-use scene::Filled;
-use scene::Scene;
 
 // A message as sent, its filled-in form and the place of what follows it; or "end"; or a refusal's number and place.
 pub enum MessageAnswer {
@@ -54,7 +54,7 @@ pub struct WriteReply {
 pub fn start() -> Scene
     ensures { λ r. ⌜ sceneOf r ≡ fresh ⌝ }
 {
-    scene::cleared_scene(0)
+    dem_scene::cleared_scene(0)
 }
 
 // The place of the bytes that are left from a cursor on.
@@ -72,7 +72,7 @@ pub fn read_message_at(scene: Scene, bytes: &[u8], at: usize) -> MessageReply
     ensures { λ r. ⌜ replyOf (now (bytes .entry)) r ≡ messageAt (sceneOf scene) (now (bytes .entry)) at ⌝ }
 {
     let rest = scene.rest;
-    if !scene::in_range(rest) {
+    if !dem_scene::in_range(rest) {
         return MessageReply {
             answer: MessageAnswer::Refused(WRONG_SCENE, 0),
             scene,
@@ -96,7 +96,7 @@ pub fn read_message_at(scene: Scene, bytes: &[u8], at: usize) -> MessageReply
             scene,
         };
     }
-    let m = reader::read_message(bytes, at, scene::context(rest));
+    let m = dem_reader::read_message(bytes, at, dem_scene::context(rest));
     let message = m.message;
     let c = m.cursor;
     let refusal = c.refusal;
@@ -106,8 +106,8 @@ pub fn read_message_at(scene: Scene, bytes: &[u8], at: usize) -> MessageReply
             scene,
         };
     }
-    let filled = effects::filled_in(scene, message);
-    let after = effects::scene_after(scene, message, bytes);
+    let filled = dem_effects::filled_in(scene, message);
+    let after = dem_effects::scene_after(scene, message, bytes);
     let next = place(bytes.len(), c.at);
     MessageReply {
         answer: MessageAnswer::Found(message, filled, next),
@@ -121,7 +121,7 @@ pub fn write_message(scene: Scene, message: Message, text: &[u8], room: &mut [u8
     ensures { λ r. ⌜ writtenOf r (now (room .exit)) ≡ writeSent (sceneOf scene) (valuesBy (placed (now (text .entry))) message) (now (room .entry)) ⌝ }
 {
     let rest = scene.rest;
-    if !scene::in_range(rest) {
+    if !dem_scene::in_range(rest) {
         return WriteReply {
             answer: WriteAnswer::Refused(WRONG_SCENE, 0),
             scene,
@@ -133,24 +133,24 @@ pub fn write_message(scene: Scene, message: Message, text: &[u8], room: &mut [u8
             scene,
         };
     }
-    if !allowed::is_allowed(message, text, scene::context(rest)) {
+    if !dem_allowed::is_allowed(message, text, dem_scene::context(rest)) {
         return WriteReply {
             answer: WriteAnswer::Refused(UNREADABLE, 0),
             scene,
         };
     }
-    let pieces = pieces::pieces_of(message);
-    let size = pieces::size_of(text, pieces);
+    let pieces = dem_writer::pieces_of(message);
+    let size = dem_writer::size_of(text, pieces);
     if room.len() < size {
         return WriteReply {
             answer: WriteAnswer::Refused(SHORT_ROOM, size),
             scene,
         };
     }
-    let written = pieces::put_pieces(room, text, pieces);
+    let written = dem_writer::put_pieces(room, text, pieces);
     WriteReply {
         answer: WriteAnswer::Written(written),
-        scene: effects::scene_after(scene, message, text),
+        scene: dem_effects::scene_after(scene, message, text),
     }
 }
 
@@ -179,14 +179,14 @@ fn masked_form(scene: Scene, message: Message, form: &mut [u8]) -> usize
     ensures within { λ r. ⌜ r ≤ length (now (form .exit)) ⌝ }
 {
     match message {
-        Message::Clientdata(d) => normal::put_client(form, 0, scene::fill_client(d)),
+        Message::Clientdata(d) => dem_normal::put_client(form, 0, dem_scene::fill_client(d)),
         Message::Update(u) => {
             let entity = u.entity;
-            let b = effects::baseline_of(scene, entity);
-            let record = scene::fill_update(u, b);
-            normal::put_update(form, 0, entity, record, b)
+            let b = dem_effects::baseline_of(scene, entity);
+            let record = dem_scene::fill_update(u, b);
+            dem_normal::put_update(form, 0, entity, record, b)
         }
-        Message::Sound(s) => normal::put_sound(form, 0, scene::fill_sound(s)),
+        Message::Sound(s) => dem_normal::put_sound(form, 0, dem_scene::fill_sound(s)),
         _ => 0,
     }
 }
@@ -210,7 +210,7 @@ fn into_room(
             scene,
         };
     }
-    let written = pieces::put_text(room, 0, text, start, len);
+    let written = dem_writer::put_text(room, 0, text, start, len);
     NormalReply {
         answer: NormalAnswer::Written(written, next),
         scene: after,

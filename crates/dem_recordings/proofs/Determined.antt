@@ -9,9 +9,9 @@ use Rattle.dem.specs.Answer.{outlineAt, blocksAt, normalBlocksAt, whole, wholeN
 use Rattle.format.proofs.GivenLaws.{GivenBack, Replied, Wrote}
 use Rattle.dem.proofs.GivenLaws.{outline-given, run-given, forms-given, whole-given, whole-normal-given}
 use Rattle.wire.proofs.FieldLaws.{Held, Fixed}
-use Rattle.scene.specs.declared.Scene.{Scene}
-use Rattle.scene.specs.Views.{sceneOf}
-use Rattle.scene.proofs.Scene as SceneType
+use Rattle.dem_scene.specs.declared.Scene.{Scene}
+use Rattle.dem_scene.specs.Views.{sceneOf}
+use Rattle.dem_scene.proofs.Scene as SceneType
 use Rattle.dem_messages.specs.Replies.{countOf, writtenOf}
 use Rattle.dem_messages.specs.declared.WriteReply.{WriteReply}
 use Rattle.dem_messages.proofs.WriteReply as WriteType

@@ -25,10 +25,10 @@ use Rattle.dem.proofs.BlockLaws.{block-lawful}
 use Rattle.format.proofs.ListLaws.{sets-front}
 use Rattle.format.proofs.AnswerLaws.{item-wrong, item-end, item-past, item-refused}
 use Rattle.dem.proofs.RewritingLaws.{writtenBlocks, normal-blocks-at}
-use Rattle.scene.specs.Views.{sceneOf}
-use Rattle.blocks.specs.Runs.{Told, refusedIn, toldOf, answered, Wrote, stored, put, wroteOf, wrote}
-use Rattle.blocks.specs.declared.BlocksAt.{BlocksAt}
-use Rattle.blocks.specs.declared.WrittenAt.{WrittenAt}
+use Rattle.dem_scene.specs.Views.{sceneOf}
+use Rattle.dem_blocks.specs.Runs.{Told, refusedIn, toldOf, answered, Wrote, stored, put, wroteOf, wrote}
+use Rattle.dem_blocks.specs.declared.BlocksAt.{BlocksAt}
+use Rattle.dem_blocks.specs.declared.WrittenAt.{WrittenAt}
 use Rattle.dem_recordings.proofs.Recordings.{Whole, run-blocks, run-refusal, run-next, run-place, run-whole}
 
 -- ---- a run that writes

@@ -31,13 +31,13 @@ use Rattle.format.proofs.WrittenLaws.{written-room, written-enough, written-sho
 use Rattle.format.proofs.AnswerLaws.{place-drop, room-enough, room-short}
 use Rattle.dem.proofs.RewritingLaws.{writtenBlocks, wholeWritten, whole-written-accepted, whole-written-refused, whole-normal-by-run}
 use Rattle.dem.proofs.RewritingLaws.{whole-normal-by-track, track-normal-at, track-normal-refused}
-use Rattle.heads.specs.Tracks.{trackOf as lineOf}
-use Rattle.heads.specs.declared.TrackAt.{TrackAt}
-use Rattle.heads.proofs.NormalLaws.{number-range}
-use Rattle.scene.specs.Views.{sceneOf}
-use Rattle.blocks.specs.Runs.{refusedIn, toldOf, toldWith, answered, Wrote, wrote, wroteOf, stored, put, runOf}
-use Rattle.blocks.specs.declared.BlocksAt.{BlocksAt}
-use Rattle.blocks.specs.declared.WrittenAt.{WrittenAt}
+use Rattle.dem_framing.specs.Tracks.{trackOf as lineOf}
+use Rattle.dem_framing.specs.declared.TrackAt.{TrackAt}
+use Rattle.dem_framing.proofs.NormalLaws.{number-range}
+use Rattle.dem_scene.specs.Views.{sceneOf}
+use Rattle.dem_blocks.specs.Runs.{refusedIn, toldOf, toldWith, answered, Wrote, wrote, wroteOf, stored, put, runOf}
+use Rattle.dem_blocks.specs.declared.BlocksAt.{BlocksAt}
+use Rattle.dem_blocks.specs.declared.WrittenAt.{WrittenAt}
 use Rattle.dem_recordings.proofs.Recordings.{track-refused, track-found, run-refusal, run-place, run-whole}
 
 -- ---- the track line

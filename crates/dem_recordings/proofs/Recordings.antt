@@ -28,14 +28,14 @@ use Rattle.format.proofs.CodecLaws.{Lawful, Taken, shrinks}
 use Rattle.format.proofs.WrittenLaws.{readOf}
 use Rattle.dem.proofs.BlockLaws.{block-lawful}
 use Rattle.format.proofs.AnswerLaws.{item-at, place-drop}
-use Rattle.heads.specs.Heads.{headIn, headOf}
-use Rattle.heads.specs.Tracks.{trackOf as lineOf}
-use Rattle.heads.specs.declared.HeadAt.{HeadAt}
-use Rattle.heads.specs.declared.TrackAt.{TrackAt}
-use Rattle.heads.proofs.HeadLaws.{block-head, block-ended}
-use Rattle.scene.specs.Views.{sceneOf}
-use Rattle.blocks.specs.Runs.{Told, refusedIn, countedOf, toldOf, answered}
-use Rattle.blocks.specs.declared.BlocksAt.{BlocksAt}
+use Rattle.dem_framing.specs.Heads.{headIn, headOf}
+use Rattle.dem_framing.specs.Tracks.{trackOf as lineOf}
+use Rattle.dem_framing.specs.declared.HeadAt.{HeadAt}
+use Rattle.dem_framing.specs.declared.TrackAt.{TrackAt}
+use Rattle.dem_framing.proofs.HeadLaws.{block-head, block-ended}
+use Rattle.dem_scene.specs.Views.{sceneOf}
+use Rattle.dem_blocks.specs.Runs.{Told, refusedIn, countedOf, toldOf, answered}
+use Rattle.dem_blocks.specs.declared.BlocksAt.{BlocksAt}
 use Rattle.dem.proofs.PieceLaws.{summary, wholeRun, whole-by-run, whole-by-track}
 use Rattle.dem.proofs.RefusalLaws.{listed}
 

@@ -6,7 +6,7 @@ use Rattle.dem.specs.Scene.{Scene as Described}
 use Rattle.format.specs.Answer.{Answer, result, atEnd, refusal, Reply, reply, Written, written, Progress as Passed, Rewriting as Rewritten}
 use Rattle.format.specs.Answer.{Normalised}
 use Rattle.dem.specs.Answer.{Track, Outline as Told, Summary}
-use Rattle.scene.specs.Views.{sceneOf}
+use Rattle.dem_scene.specs.Views.{sceneOf}
 use Rattle.dem_recordings.specs.declared.TrackAnswer.{TrackAnswer}
 use Rattle.dem_recordings.specs.declared.TrackAnswer.the-variants as T
 use Rattle.dem_recordings.specs.declared.TrackNormalAnswer.{TrackNormalAnswer}

@@ -7,22 +7,22 @@ ghost use Rattle.dem.specs.Scene.{fresh};
 ghost use Rattle.dem.specs.Recording.{blocks as recordingBlocks, normalBlock};
 ghost use Rattle.format.specs.Answer.{reply, result, normalAt};
 ghost use Rattle.dem.specs.Answer.{trackAt, outlineAt, blocksAt, whole, normalBlocksAt, trackNormal, wholeNormal};
-ghost use Rattle.scene.specs.Views.{sceneOf};
-ghost use Rattle.blocks.specs.Runs.{stored, wroteOf, runOf, wrote};
+ghost use Rattle.dem_scene.specs.Views.{sceneOf};
+ghost use Rattle.dem_blocks.specs.Runs.{stored, wroteOf, runOf, wrote};
 ghost use Rattle.dem_messages.specs.Replies.{writtenOf, normalReplyOf};
 ghost use Rattle.dem_recordings.specs.Replies.{trackAnswerOf, blockReplyOf, blocksReplyOf, recordingReplyOf, rewriteAnswerOf, rewriteReplyOf, trackWrittenOf};
-use blocks::BlocksAt;
-use blocks::WrittenAt;
 use dem::limit::HEAD_SIZE;
+use dem_blocks::BlocksAt;
+use dem_blocks::WrittenAt;
 use dem_messages::NormalAnswer;
 use dem_messages::NormalReply;
 use dem_messages::WriteAnswer;
 use dem_messages::WriteReply;
 use dem_messages::start;
+use dem_scene::Scene;
 use format::refusal::CUT_MESSAGE;
 use format::refusal::SHORT_ROOM;
 use format::refusal::WRONG_SCENE;
-use scene::Scene;
 
 // A track number and the place of what follows its line; or a refusal's number and place.
 pub enum TrackAnswer {
@@ -88,7 +88,7 @@ pub struct RecordingReply {
 pub fn read_track(bytes: &[u8]) -> TrackAnswer
     ensures { λ r. ⌜ trackAnswerOf r ≡ trackAt (now (bytes .entry)) ⌝ }
 {
-    let t = heads::read_track(bytes);
+    let t = dem_framing::read_track(bytes);
     let refusal = t.refusal;
     if refusal != 0 {
         return TrackAnswer::Refused(refusal, t.at);
@@ -101,7 +101,7 @@ pub fn read_block_at(scene: Scene, bytes: &[u8], at: usize) -> BlockReply
     ensures { λ r. ⌜ blockReplyOf r ≡ outlineAt (sceneOf scene) (now (bytes .entry)) at ⌝ }
 {
     let rest = scene.rest;
-    if !scene::in_range(rest) {
+    if !dem_scene::in_range(rest) {
         return BlockReply {
             answer: BlockAnswer::Refused(WRONG_SCENE, 0),
             scene,
@@ -119,7 +119,7 @@ pub fn read_block_at(scene: Scene, bytes: &[u8], at: usize) -> BlockReply
             scene,
         };
     }
-    let b = blocks::read_blocks(bytes, at, 1, scene);
+    let b = dem_blocks::read_blocks(bytes, at, 1, scene);
     let refusal = b.refusal;
     if refusal != 0 {
         return BlockReply {
@@ -127,7 +127,7 @@ pub fn read_block_at(scene: Scene, bytes: &[u8], at: usize) -> BlockReply
             scene,
         };
     }
-    let h = heads::read_head(bytes, at);
+    let h = dem_framing::read_head(bytes, at);
     let outline = Outline {
         angle0: h.angle0,
         angle1: h.angle1,
@@ -167,7 +167,7 @@ pub fn read_blocks_at(scene: Scene, bytes: &[u8], at: usize) -> BlocksReply
     ensures { λ r. ⌜ blocksReplyOf r ≡ blocksAt (sceneOf scene) (now (bytes .entry)) at ⌝ }
 {
     let rest = scene.rest;
-    if !scene::in_range(rest) {
+    if !dem_scene::in_range(rest) {
         return BlocksReply {
             answer: BlocksAnswer::Refused(WRONG_SCENE, 0),
             scene,
@@ -179,14 +179,14 @@ pub fn read_blocks_at(scene: Scene, bytes: &[u8], at: usize) -> BlocksReply
             scene,
         };
     }
-    let all = blocks::read_blocks(bytes, at, bytes.len(), scene);
+    let all = dem_blocks::read_blocks(bytes, at, bytes.len(), scene);
     let next = all.next;
     let place = all.place;
     if next == place {
         return told(all, all.refusal, place);
     }
     told(
-        blocks::read_blocks(bytes, at, all.blocks, scene),
+        dem_blocks::read_blocks(bytes, at, all.blocks, scene),
         all.refusal,
         place,
     )
@@ -196,7 +196,7 @@ pub fn read_blocks_at(scene: Scene, bytes: &[u8], at: usize) -> BlocksReply
 pub fn read_recording(bytes: &[u8]) -> RecordingReply
     ensures { λ r. ⌜ recordingReplyOf r ≡ whole (now (bytes .entry)) ⌝ }
 {
-    let t = heads::read_track(bytes);
+    let t = dem_framing::read_track(bytes);
     let wrong = t.refusal;
     if wrong != 0 {
         return RecordingReply {
@@ -204,7 +204,7 @@ pub fn read_recording(bytes: &[u8]) -> RecordingReply
             scene: start(),
         };
     }
-    let b = blocks::read_blocks(bytes, t.at, bytes.len(), start());
+    let b = dem_blocks::read_blocks(bytes, t.at, bytes.len(), start());
     let refusal = b.refusal;
     if refusal != 0 {
         return RecordingReply {
@@ -262,7 +262,7 @@ pub fn normal_blocks_at(scene: Scene, bytes: &[u8], at: usize, room: &mut [u8]) 
     ensures { λ r. ⌜ rewriteReplyOf r (now (room .exit)) ≡ normalBlocksAt (sceneOf scene) (now (bytes .entry)) at (now (room .entry)) ⌝ }
 {
     let rest = scene.rest;
-    if !scene::in_range(rest) {
+    if !dem_scene::in_range(rest) {
         return RewriteReply {
             answer: RewriteAnswer::Refused(WRONG_SCENE, 0),
             scene,
@@ -274,7 +274,7 @@ pub fn normal_blocks_at(scene: Scene, bytes: &[u8], at: usize, room: &mut [u8]) 
             scene,
         };
     }
-    let w = blocks::write_blocks(bytes, at, bytes.len(), scene, true, room.len(), room, 0);
+    let w = dem_blocks::write_blocks(bytes, at, bytes.len(), scene, true, room.len(), room, 0);
     let all = w.read;
     let next = all.next;
     let place = all.place;
@@ -282,7 +282,7 @@ pub fn normal_blocks_at(scene: Scene, bytes: &[u8], at: usize, room: &mut [u8]) 
     if (next == place) & (refusal != SHORT_ROOM) {
         return told_written(all, refusal, place, w.written);
     }
-    let before = blocks::read_blocks(bytes, at, all.blocks, scene);
+    let before = dem_blocks::read_blocks(bytes, at, all.blocks, scene);
     told_written(before, refusal, place, w.written)
 }
 
@@ -292,7 +292,7 @@ pub fn normal_block_at(scene: Scene, bytes: &[u8], at: usize, room: &mut [u8]) -
     ensures { λ r. ⌜ normalReplyOf r (now (room .exit)) ≡ normalAt recordingBlocks normalBlock (sceneOf scene) (now (bytes .entry)) at (now (room .entry)) ⌝ }
 {
     let rest = scene.rest;
-    if !scene::in_range(rest) {
+    if !dem_scene::in_range(rest) {
         return NormalReply {
             answer: NormalAnswer::Refused(WRONG_SCENE, 0),
             scene,
@@ -310,7 +310,7 @@ pub fn normal_block_at(scene: Scene, bytes: &[u8], at: usize, room: &mut [u8]) -
             scene,
         };
     }
-    let w = blocks::write_blocks(bytes, at, 1, scene, true, room.len(), room, 0);
+    let w = dem_blocks::write_blocks(bytes, at, 1, scene, true, room.len(), room, 0);
     let b = w.read;
     let refusal = b.refusal;
     if refusal != 0 {
@@ -336,17 +336,17 @@ pub enum TrackNormalAnswer {
 pub fn normal_track(bytes: &[u8], room: &mut [u8]) -> TrackNormalAnswer
     ensures { λ r. ⌜ trackWrittenOf r (now (room .exit)) ≡ trackNormal (now (bytes .entry)) (now (room .entry)) ⌝ }
 {
-    let t = heads::read_track(bytes);
+    let t = dem_framing::read_track(bytes);
     let refusal = t.refusal;
     if refusal != 0 {
         return TrackNormalAnswer::Refused(refusal, t.at);
     }
     let number = t.number;
-    let line = heads::track_size(number);
+    let line = dem_framing::track_size(number);
     if room.len() < line {
         return TrackNormalAnswer::Refused(SHORT_ROOM, line);
     }
-    let written = heads::put_track(room, number);
+    let written = dem_framing::put_track(room, number);
     TrackNormalAnswer::Written(written, t.at)
 }
 
@@ -355,7 +355,7 @@ fn write_all(bytes: &[u8], at: usize, limit: usize, room: &mut [u8], base: usize
     requires { ⌜ (at ≤ length (now bytes)) × (base ≤ length (now room)) ⌝ }
     ensures { λ r. ⌜ wrote r (now (room .exit)) ≡ wroteOf fresh (length (now (bytes .entry))) (stored (now (room .entry)) base limit) base 0 0 0 (now (room .entry)) (runOf true (length (now (bytes .entry))) limit fresh (drop at (now (bytes .entry)))) ⌝ }
 {
-    blocks::write_blocks(bytes, at, bytes.len(), start(), true, limit, room, base)
+    dem_blocks::write_blocks(bytes, at, bytes.len(), start(), true, limit, room, base)
 }
 
 // More than any lent room: blocks are counted, and none is stored.
@@ -366,7 +366,7 @@ const ANY_ROOM: usize = 18446744073709551615;
 pub fn normal_recording(bytes: &[u8], room: &mut [u8]) -> WriteReply
     ensures { λ r. ⌜ writtenOf r (now (room .exit)) ≡ wholeNormal (now (bytes .entry)) (now (room .entry)) ⌝ }
 {
-    let t = heads::read_track(bytes);
+    let t = dem_framing::read_track(bytes);
     let wrong = t.refusal;
     if wrong != 0 {
         return WriteReply {
@@ -375,7 +375,7 @@ pub fn normal_recording(bytes: &[u8], room: &mut [u8]) -> WriteReply
         };
     }
     let number = t.number;
-    let line = heads::track_size(number);
+    let line = dem_framing::track_size(number);
     let count = write_all(bytes, t.at, ANY_ROOM, room, 0);
     let b = count.read;
     let refusal = b.refusal;
@@ -392,7 +392,7 @@ pub fn normal_recording(bytes: &[u8], room: &mut [u8]) -> WriteReply
             scene: start(),
         };
     }
-    heads::put_track(room, number);
+    dem_framing::put_track(room, number);
     let w = write_all(bytes, t.at, count.written, room, line);
     let read = w.read;
     let after = read.scene;

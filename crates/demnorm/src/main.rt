@@ -68,7 +68,7 @@ fn write_blocks(input: &mut [u8], output: &mut [u8], filled: Filled, from: usize
     let mut before = from;
     let mut turns = u64::MAX;
     while turns > 0 {
-        let piece = stream::normal_piece(scene, &input[start..len], last, before, output);
+        let piece = dem_stream::normal_piece(scene, &input[start..len], last, before, output);
         let written = piece.written;
         if !is_written(output, written) {
             return;
@@ -83,8 +83,8 @@ fn write_blocks(input: &mut [u8], output: &mut [u8], filled: Filled, from: usize
         }
         let used = piece.used;
         scene = piece.scene;
-        before = stream::place_behind(before, used);
-        let left = stream::move_front(input, start + used, len);
+        before = dem_stream::place_behind(before, used);
+        let left = dem_stream::move_front(input, start + used, len);
         let more = buffer::fill(input, left);
         if more.failed {
             complain_of_input();
@@ -105,7 +105,7 @@ fn write_all(input: &mut [u8], output: &mut [u8]) {
         return;
     }
     let len = filled.len;
-    let line = stream::first_line(&input[..len], filled.ended, output);
+    let line = dem_stream::first_line(&input[..len], filled.ended, output);
     let refusal = line.refusal;
     if refusal != 0 {
         tell(refusal, line.place);

@@ -50,7 +50,7 @@ fn decimal(out: &mut [u8], at: usize, v: u64) -> usize {
 const BELOW_ZERO: u64 = 4294967296;
 
 pub fn char(v: i8) -> u64 {
-    let bits = pieces::unsigned8(v) as u64;
+    let bits = dem_writer::unsigned8(v) as u64;
     if v < 0 {
         return BELOW_ZERO + 256 - bits;
     }
@@ -58,7 +58,7 @@ pub fn char(v: i8) -> u64 {
 }
 
 pub fn short(v: i16) -> u64 {
-    let bits = pieces::unsigned16(v) as u64;
+    let bits = dem_writer::unsigned16(v) as u64;
     if v < 0 {
         return BELOW_ZERO + 65536 - bits;
     }
@@ -66,7 +66,7 @@ pub fn short(v: i16) -> u64 {
 }
 
 pub fn long(v: i32) -> u64 {
-    let bits = pieces::unsigned32(v) as u64;
+    let bits = dem_writer::unsigned32(v) as u64;
     if v < 0 {
         return BELOW_ZERO + 4294967296 - bits;
     }

@@ -1,7 +1,7 @@
 -- `dem_messages::into_room` meets its contract: the room is tested with the number of bytes, then they are put at its front.
 -- Assumes nothing.
 use borrow.Author.Needs.{needs}
-use Rattle.scene.specs.Views.{sceneOf}
+use Rattle.dem_scene.specs.Views.{sceneOf}
 use Rattle.dem_messages.proofs.Forms.{part-fits, part-short, part-put}
 use Rattle.dem_messages.proofs.into_room.Statement.{statement}
 use Rattle.dem_messages.proofs.into_room.Tie as tie

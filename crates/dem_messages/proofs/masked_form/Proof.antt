@@ -5,7 +5,7 @@ use mathlib.Core.Path.{refl}
 use mathlib.Core.List.{[]}
 use Prim.Native.Nat.{zero-le}
 use Rattle.dem.specs.Scene.{contextOf}
-use Rattle.scene.specs.Views.{sceneOf}
+use Rattle.dem_scene.specs.Views.{sceneOf}
 use Rattle.dem_messages.proofs.Forms.{put-within, client-chosen, update-chosen, sound-chosen, none-chosen, others-unmasked, others-silent}
 use borrow.Author.Needs.{needs}
 use Rattle.dem_messages.proofs.masked_form.Statement.{statement}

@@ -18,12 +18,12 @@ use Rattle.dem.proofs.RangeLaws.{range→}
 use Rattle.format.proofs.AnswerLaws.{item-wrong, item-end, item-past}
 use Rattle.wire.specs.Cursors.{placed, parseAt}
 use Rattle.wire.proofs.Sticky.{here}
-use Rattle.message.specs.Values.{valuesOf}
-use Rattle.message.specs.Places.{inPlace, valuesTo}
-use Rattle.message.proofs.InPlace.{placed-values}
-use Rattle.parts.specs.Kinds.{gottenMessage, leftAt}
-use Rattle.reader.proofs.Readings.{read-in-place, read-values, read-numbered}
-use Rattle.scene.specs.Views.{sceneWith, sceneOf, baselineNumbers, recordNumbers}
+use Rattle.dem_types.specs.Values.{valuesOf}
+use Rattle.dem_types.specs.Places.{inPlace, valuesTo}
+use Rattle.dem_types.proofs.InPlace.{placed-values}
+use Rattle.dem_parts.specs.Kinds.{gottenMessage, leftAt}
+use Rattle.dem_reader.proofs.Readings.{read-in-place, read-values, read-numbered}
+use Rattle.dem_scene.specs.Views.{sceneWith, sceneOf, baselineNumbers, recordNumbers}
 use Rattle.dem_messages.proofs.Messages.{ended-reply, refused-reply, found-reply}
 use Rattle.dem_messages.proofs.read_message_at.Statement.{statement}
 use Rattle.dem_messages.proofs.read_message_at.Tie as tie

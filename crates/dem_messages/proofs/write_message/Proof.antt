@@ -11,10 +11,10 @@ use Rattle.format.specs.Layout.{print, allows}
 use Rattle.dem.specs.Scene.{Context, contextOf, inRange}
 use Rattle.dem.specs.Message.{layout, layoutIn}
 use Rattle.dem.proofs.RangeLaws.{range→}
-use Rattle.message.specs.Values.{valuesBy}
-use Rattle.scene.specs.Views.{sceneWith, sceneOf, baselineNumbers, recordNumbers}
-use Rattle.pieces.specs.Bytes.{piecesBytes}
-use Rattle.pieces.proofs.SizeLaws.{message-size}
+use Rattle.dem_types.specs.Values.{valuesBy}
+use Rattle.dem_scene.specs.Views.{sceneWith, sceneOf, baselineNumbers, recordNumbers}
+use Rattle.dem_writer.specs.Bytes.{piecesBytes}
+use Rattle.dem_writer.proofs.SizeLaws.{message-size}
 use Rattle.wire.specs.Cursors.{placed}
 use Rattle.dem_messages.proofs.Writing.{write-wrong, write-ended, write-unreadable, short-reply, done-reply, placed-texts, allowed-numbered}
 use Rattle.dem_messages.proofs.write_message.Statement.{statement}

@@ -11,7 +11,7 @@ use lib.ListN.{length}
 use Rattle.format.specs.Bytes.{Bytes}
 use Rattle.dem.specs.Scene.{inRange}
 use Rattle.format.proofs.ByteLaws.{bytes-of}
-use Rattle.scene.specs.Views.{sceneOf, baselineNumbers, recordNumbers}
+use Rattle.dem_scene.specs.Views.{sceneOf, baselineNumbers, recordNumbers}
 use Rattle.dem_recordings.proofs.NormalForms.{normal-wrong, normal-end, normal-past, normal-refused, normal-written}
 use Rattle.dem_recordings.proofs.normal_block_at.Statement.{statement}
 use Rattle.dem_recordings.proofs.normal_block_at.Tie as tie

@@ -11,7 +11,7 @@ use Rattle.format.specs.Bytes.{Bytes}
 use Rattle.dem.specs.Scene.{Scene, inRange}
 use Rattle.format.specs.Answer.{Reply, Rewriting, written}
 use Rattle.format.proofs.ByteLaws.{bytes-of}
-use Rattle.scene.specs.Views.{sceneOf, baselineNumbers, recordNumbers}
+use Rattle.dem_scene.specs.Views.{sceneOf, baselineNumbers, recordNumbers}
 use Rattle.dem_recordings.proofs.NormalForms.{rewrite-wrong, rewrite-past, rewritten-once, rewritten-twice}
 use Rattle.dem_recordings.proofs.normal_blocks_at.Statement.{statement}
 use Rattle.dem_recordings.proofs.normal_blocks_at.Tie as tie

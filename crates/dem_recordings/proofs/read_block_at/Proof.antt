@@ -13,7 +13,7 @@ use Rattle.dem.specs.Scene.{inRange}
 use Rattle.dem.specs.Recording.{blocks}
 use Rattle.format.proofs.ByteLaws.{bytes-of}
 use Rattle.format.proofs.AnswerLaws.{item-wrong, item-end, item-past}
-use Rattle.scene.specs.Views.{sceneOf, baselineNumbers, recordNumbers}
+use Rattle.dem_scene.specs.Views.{sceneOf, baselineNumbers, recordNumbers}
 use Rattle.dem_recordings.proofs.Recordings.{outlined, outline-refused, outline-found}
 use Rattle.dem_recordings.proofs.read_block_at.Statement.{statement}
 use Rattle.dem_recordings.proofs.read_block_at.Tie as tie

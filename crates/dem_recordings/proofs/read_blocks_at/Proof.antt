@@ -9,7 +9,7 @@ use borrow.Author.Tests.{not-true, not-false}
 use Rattle.format.specs.Bytes.{Bytes}
 use Rattle.dem.specs.Scene.{inRange}
 use Rattle.format.proofs.ByteLaws.{bytes-of}
-use Rattle.scene.specs.Views.{sceneOf, baselineNumbers, recordNumbers}
+use Rattle.dem_scene.specs.Views.{sceneOf, baselineNumbers, recordNumbers}
 use Rattle.dem_recordings.proofs.Recordings.{blocks-wrong, blocks-past, blocks-once, blocks-twice}
 use Rattle.dem_recordings.proofs.read_blocks_at.Statement.{statement}
 use Rattle.dem_recordings.proofs.read_blocks_at.Tie as tie

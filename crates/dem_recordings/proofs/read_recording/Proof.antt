@@ -14,8 +14,8 @@ use Rattle.dem.specs.Recording.{blocks}
 use Rattle.format.specs.Answer.{result, refusal, reply}
 use Rattle.format.proofs.ByteLaws.{bytes-of}
 use Rattle.dem.proofs.RangeLaws.{fresh-range}
-use Rattle.scene.specs.Views.{sceneOf}
-use Rattle.blocks.specs.Runs.{toldOf, answered}
+use Rattle.dem_scene.specs.Views.{sceneOf}
+use Rattle.dem_blocks.specs.Runs.{toldOf, answered}
 use Rattle.dem_recordings.proofs.Recordings.{recording-track, recording-refused, recording-read}
 use Rattle.dem_recordings.proofs.read_recording.Statement.{statement}
 use Rattle.dem_recordings.proofs.read_recording.Tie as tie

@@ -6,7 +6,7 @@ use borrow.Author.Needs.{needs}
 use lib.ListN.{length, drop}
 use Rattle.dem.specs.Scene.{Scene, inRange}
 use Rattle.dem.proofs.RangeLaws.{fresh-range}
-use Rattle.blocks.specs.Runs.{wroteOf, stored, runOf}
+use Rattle.dem_blocks.specs.Runs.{wroteOf, stored, runOf}
 use Rattle.dem_recordings.proofs.write_all.Statement.{statement}
 use Rattle.dem_recordings.proofs.write_all.Tie as tie
 

@@ -1,0 +1,123 @@
+-- What a message brings to the lines: frags, colours and serverinfo a change, every other message none; and what is told of a message with the lines lent.
+-- Assumes nothing.
+use mathlib.Core.Path.{_≡_, refl, sym, ap, _∙_}
+use mathlib.Core.List.{List, [], _∷_}
+use Prim.Native.Nat.{ℕ}
+use borrow.Author.Tests.{ne-eqb}
+use denote.Enum.Declared.{tagOf}
+use types.Run.{OneOf, miss}
+use lib.ListN.{length}
+use Rattle.format.specs.Bytes.{Bytes}
+use Rattle.format.specs.Layout.{Value, tail}
+use Rattle.dem.specs.Scene.{PlayerLine, Scene, contextOf}
+use Rattle.dem.specs.Message.{Message as Values, apply, fill}
+use Rattle.format.specs.Answer.{Answer, refusal, Item, Reply, reply}
+use Rattle.dem.specs.Answer.{messageAt}
+use Rattle.dem.proofs.MessageLaws.{fill-update}
+use Rattle.wire.specs.Cursors.{placed}
+use Rattle.wire.specs.declared.Text.{Text}
+use Rattle.dem_types.proofs.Message as Messages
+use Rattle.dem_types.specs.declared.Message.{Message}
+use Rattle.dem_types.specs.declared.Message.the-variants as M
+use Rattle.dem_types.specs.Places.{valuesTo}
+use Rattle.dem_types.specs.Values.{valuesBy, valuesOf, updateValues}
+use Rattle.dem_scene.specs.Views.{Numbered, sceneOf, filledBy}
+use Rattle.dem_scene.specs.declared.Filled.{Filled}
+use Rattle.dem_scene.specs.declared.Scene.{Scene as Held}
+use Rattle.dem_messages.specs.Replies.{answerOf, replyOf}
+use Rattle.dem_messages.specs.declared.MessageAnswer.{MessageAnswer}
+use Rattle.dem_messages.specs.declared.MessageAnswer.the-variants.{Found, End, Refused}
+use Rattle.dem_messages.specs.declared.MessageReply.{MessageReply}
+use Rattle.dem_messages.proofs.Messages.{FoundAt, found-good, found-reply-at}
+use Rattle.dem_messages.proofs.Writing.{allowed-numbered}
+use Rattle.dem_lines.specs.declared.LineChange.{LineChange}
+use Rattle.dem_lines.specs.Lent.{Lent, lent, changeLent, withLines, messageLent}
+use Rattle.dem_lines.specs.Turns.{NumberedIn, linesAfter, Brings}
+use Rattle.dem_lines.proofs.Lending.{not-sixteen, message-refused, lines-changed, same-fill, leftBy, message-lent}
+
+-- ---- messages that change no line, by their place in the list of messages
+
+abbrev others : List ℕ
+others = 0 ∷ 1 ∷ 2 ∷ 3 ∷ 4 ∷ 5 ∷ 6 ∷ 7 ∷ 8 ∷ 9 ∷ 11 ∷ 12 ∷ 14 ∷ 15 ∷ 17 ∷ 18 ∷ 19 ∷ 20 ∷ 21 ∷ 22 ∷ 23 ∷ 24 ∷ 25 ∷ 26 ∷ 27 ∷ 28 ∷ 29 ∷ 30 ∷ 31 ∷ 32 ∷ 33 ∷ []
+
+pub others-bring : (m : Message) → OneOf others (tagOf Messages.the-type m) → (s : Scene) (t : Text → List ℕ) → Numbered m
+    → s .players ≡ apply s (fill s (valuesBy t m)) .players
+unfolding apply fill
+others-bring M.Nop h s t n = refl
+others-bring M.Disconnect h s t n = refl
+others-bring (M.Stat _ _) h s t n = refl
+others-bring (M.Version _) h s t n = refl
+others-bring (M.View _) h s t n = refl
+others-bring (M.Sound _) h s t n = refl
+others-bring (M.Time _) h s t n = refl
+others-bring (M.Print _) h s t n = refl
+others-bring (M.Stufftext _) h s t n = refl
+others-bring (M.SetAngles _ _ _) h s t n = refl
+others-bring (M.Serverinfo _) h s t n = absurd (miss others 10 tt h)
+others-bring (M.Style _ _) h s t n = refl
+others-bring (M.Name _ _) h s t n = refl
+others-bring (M.Frags _ _) h s t n = absurd (miss others 13 tt h)
+others-bring (M.Clientdata _) h s t n = refl
+others-bring (M.Stopsound _ _) h s t n = refl
+others-bring (M.Colours _ _) h s t n = absurd (miss others 16 tt h)
+others-bring (M.Particle _) h s t n = refl
+others-bring (M.Damage _ _ _) h s t n = refl
+others-bring (M.Static _ _) h s t n = refl
+others-bring (M.Baseline _ _ _) h s t n = refl
+others-bring (M.Temporary _) h s t n = refl
+others-bring (M.Pause _) h s t n = refl
+others-bring (M.Signon _) h s t n = refl
+others-bring (M.Centerprint _) h s t n = refl
+others-bring M.Killed h s t n = refl
+others-bring M.Secret h s t n = refl
+others-bring (M.StaticSound _ _ _ _) h s t n = refl
+others-bring M.Intermission h s t n = refl
+others-bring (M.Finale _) h s t n = refl
+others-bring (M.Track _ _) h s t n = refl
+others-bring M.Sellscreen h s t n = refl
+others-bring (M.Cutscene _) h s t n = refl
+others-bring (M.Update u) h s t n = ap (λ (v : List Value). apply s v .players) (sym (fill-update s (u .number) (tail (updateValues u)) (n u refl)))
+
+-- ---- what is told of a message with the lines lent
+
+-- Of lines that are not sixteen.
+pub refused-lent : (s : Scene) (bytes : List ℕ) (at : ℕ) (c : LineChange) (lines : List PlayerLine) → (length lines ≡ 16 → ⊥)
+    → lent (reply s (refusal 14 0)) (changeLent c lines .lines) ≡ messageLent s lines bytes at
+refused-lent s bytes at c lines n =
+    ap (λ (l : Lent (Answer (Unit {0}))). lent (reply s (refusal 14 0)) (l .lines)) (not-sixteen c lines (ne-eqb (length lines) 16 n))
+    ∙ sym (message-refused s lines bytes at n)
+
+module _ (s : Scene) (bytes : List ℕ) (in-bytes : Bytes bytes) (at : ℕ) (r : MessageReply) (read : replyOf bytes r ≡ messageAt s bytes at) where
+  -- A message that is found.
+  module _ (m : Message) (f : Filled) (next : ℕ) (was : r .answer ≡ Found m f next) where
+    abbrev item : Item Values Values
+    item = record { sent = valuesOf bytes m; filled = filledBy (valuesTo bytes next) f; next = next }
+
+    it : FoundAt s bytes at (sceneOf (r .scene)) item
+    it = found-reply-at s bytes at r m f next read was
+
+    numbered : Numbered m
+    numbered = allowed-numbered (contextOf s) (placed bytes) m (found-good s bytes at (sceneOf (r .scene)) item it in-bytes .allowed)
+
+  -- Its number tells an update.
+  numbered-in : (a : MessageAnswer) → r .answer ≡ a → NumberedIn a
+  numbered-in (Found m f next) e = numbered m f next e
+  numbered-in End e = tt
+  numbered-in (Refused n p) e = tt
+
+  -- What code says of the lines after an answer is what the answer says of them.
+  left-by : (lines : List PlayerLine) (a : MessageAnswer) → r .answer ≡ a → linesAfter (withLines lines s) (placed bytes) a ≡ leftBy s lines (answerOf bytes a)
+  left-by lines (Found m f next) e =
+      ap (λ (v : Values). apply (withLines lines s) v .players) (same-fill s lines (valuesOf bytes m) ∙ sym (it m f next e .filled))
+  left-by lines End e = refl
+  left-by lines (Refused n p) e = refl
+
+  -- By the change that the answer brings, and the scene after it with its own lines.
+  pub told-lent : length (s .players) ≡ 16 → (c : LineChange) → Brings c (r .answer)
+      → (u : Held) → sceneOf u ≡ withLines (s .players) (sceneOf (r .scene)) → (lines : List PlayerLine) → length lines ≡ 16
+      → lent (reply (sceneOf u) (answerOf bytes (r .answer))) (changeLent c lines .lines) ≡ messageLent s lines bytes at
+  told-lent own c brought u kept lines l =
+      let after = lines-changed c lines l ∙ brought (withLines lines s) (placed bytes) (numbered-in (r .answer) refl) ∙ left-by lines (r .answer) refl in
+      (λ i. lent (reply (kept i) (answerOf bytes (r .answer))) (after i))
+      ∙ ap (λ (q : Reply Scene (Item Values Values)). lent (reply (withLines (s .players) (q .scene)) (q .answer)) (leftBy s lines (q .answer))) read
+      ∙ sym (message-lent s lines bytes at own l)

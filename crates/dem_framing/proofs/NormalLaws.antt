@@ -3,18 +3,18 @@
 use mathlib.Core.Path.{_≡_, refl, sym, ap, _∙_, subst}
 use mathlib.Core.List.{List, [], _∷_}
 use mathlib.Core.Bool.{Bool, true, false, cond}
-use Prim.Native.Nat.{ℕ, suc, _+_, _-_, _/_, _%_, _≤_, _<_, _^_}
+use Prim.Native.Nat.{ℕ, suc, _+_, _/_, _%_, _≤_, _<_}
 use native.Mathlib.Numerals.{add-one}
 use native.Mathlib.Omega.{arith}
 use borrow.Author.Tests.{lt-ltb, le-ltb, ltb-true}
-use lib.Dec.{ltb, T}
-use lib.IntN.{ℤ, pos, negsuc, natAbs, _-ℤ_}
+use lib.Dec.{ltb}
+use lib.IntN.{ℤ, pos, negsuc, natAbs}
 use lib.ListN.{length, set, drop}
 use lib.Seq.{sets}
-use lib.Signed.{ltZ, nonNeg}
+use lib.Signed.{ltZ}
 use mir.Syntax.{w16}
-use mir.Val.{toZ, ofZ, SFits, Fits}
-use mir.ValLaws.{toZ-ofZ, half-full}
+use mir.Val.{toZ, ofZ, SFits}
+use mir.ValLaws.{toZ-ofZ}
 use Rattle.format.specs.Bytes.{Bytes, Result, found, refused, mapResult}
 use Rattle.dem.specs.Track.{TrackLine, minusSign, lineFeed, digitZero, readTrack, trackNumber, digitsOf, normalTrack, digitBytes, writeTrack}
 use Rattle.format.proofs.ResultLaws.{clash}
@@ -74,51 +74,6 @@ module _ (v : ℕ) (h : 100 ≤ v) where
       let second : at + 2 ≡ suc (suc at) = omega arith in
       let third : at + 3 ≡ suc (suc (suc at)) = omega arith in
       rw (three-digits v h, p, q, r, add-one at, second, third)
-
--- ---- the sign
-
--- What a cast to an unsigned number needs.
-abbrev Unsigned : ℤ → Type 0
-Unsigned z = T (nonNeg z) × Fits w16 (natAbs z)
-
--- A number that is not below 0, as code has it.
-abbrev AtLeast : ℤ → Type 0
-AtLeast z = ltZ z (pos 0) ≡ false → Unsigned z
-
-pub at-least : (z : ℤ) → SFits w16 z → AtLeast (toZ w16 (ofZ w16 z))
-at-least z f = subst AtLeast (sym (toZ-ofZ w16 z f)) (go z f)
-  where
-    go : (z : ℤ) → SFits w16 z → AtLeast z
-    go (pos n) f e = (tt, record { fits = half-full w16 (f .sfits) })
-    go (negsuc n) f e = clash (cc)
-
--- A number below 0 and its distance from -1, as code takes it.
-pub record Below (z d : ℤ) : Type 0 where
-  pub sub : SFits w16 d
-  pub cast : Unsigned (toZ w16 (ofZ w16 d))
-  pub next : natAbs (toZ w16 (ofZ w16 d)) + 1 ≡ natAbs z
-  pub small : natAbs z ≤ 2 ^ 15
-
-from-minus-one : (n : ℕ) → negsuc 0 -ℤ negsuc n ≡ pos n
-from-minus-one n = ap (λ (b : Bool). cond b (negsuc (1 - suc (suc n))) (pos (suc n - 1))) (le-ltb (suc n) 1 (omega arith)) ∙ ap pos (omega arith)
-
-pub below : (z : ℤ) → SFits w16 z → ltZ (toZ w16 (ofZ w16 z)) (pos 0) ≡ true → Below z (negsuc 0 -ℤ toZ w16 (ofZ w16 z))
-below z f = subst (λ (y : ℤ). ltZ y (pos 0) ≡ true → Below z (negsuc 0 -ℤ y)) (sym (toZ-ofZ w16 z f)) (go z f)
-  where
-    far : (n : ℕ) → n < 2 ^ 15 → Below (negsuc n) (pos n)
-    far n h =
-        let f : SFits w16 (pos n) = record { sfits = h } in
-        let back : toZ w16 (ofZ w16 (pos n)) ≡ pos n = toZ-ofZ w16 (pos n) f in
-        record {
-          sub = f;
-          cast = subst Unsigned (sym back) (tt, record { fits = half-full w16 h });
-          next = rw back (omega arith);
-          small = omega arith;
-        }
-
-    go : (z : ℤ) → SFits w16 z → ltZ z (pos 0) ≡ true → Below z (negsuc 0 -ℤ z)
-    go (pos n) f e = let z : ⊥ = omega (arith, ltb-true n 0 e) in absurd z
-    go (negsuc n) f e = subst (Below (negsuc n)) (sym (from-minus-one n)) (far n (f .sfits))
 
 -- ---- the line
 

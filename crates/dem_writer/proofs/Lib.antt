@@ -1,4 +1,3 @@
-pub mod UnsignedLaws
 pub mod RoomLaws
 pub mod PrintLaws
 pub mod KindLaws

@@ -2,24 +2,25 @@
 -- Assumes nothing.
 use native.Mathlib.Omega.{arith}
 use borrow.Author.Needs.{needs}
-use Rattle.dem_framing.proofs.NormalLaws.{at-least, below}
+use mir.Syntax.{w16}
+use Rattle.wire.proofs.SignedLaws.{not-negative, negative}
 use Rattle.dem_framing.proofs.magnitude.Statement.{statement}
 use Rattle.dem_framing.proofs.magnitude.Tie as tie
 
 sub-result : tie.Need-sub-result
-sub-result c = below _ (c .before .fits .number) (c .if1 .taken) .sub
+sub-result c = negative w16 _ (c .before .fits .number) (c .if1 .taken) .sub
 
 cast-result : tie.Need-cast-result
-cast-result c = below _ (c .before .fits .number) (c .if1 .taken) .cast
+cast-result c = negative w16 _ (c .before .fits .number) (c .if1 .taken) .cast
 
 add-result : tie.Need-add-result
-add-result c = let b = below _ (c .before .fits .number) (c .if1 .taken) in omega (arith, b .next, b .small)
+add-result c = let b = negative w16 _ (c .before .fits .number) (c .if1 .taken) in omega (arith, b .next, b .small)
 
 cast-result-2 : tie.Need-cast-result-2
-cast-result-2 c = at-least _ (c .before .fits .number) (c .if1 .left)
+cast-result-2 c = not-negative w16 _ (c .before .fits .number) (c .if1 .left) .0
 
 returns : tie.Need-returns
-returns c = below _ (c .before .fits .number) (c .if1 .taken) .next
+returns c = negative w16 _ (c .before .fits .number) (c .if1 .taken) .next
 
 returns-2 : tie.Need-returns-2
 returns-2 c = search needs

@@ -1,16 +1,13 @@
 -- Bytes put into room one after the other: what is still to be put, from the place reached on, makes the same room as all of it from
 -- the first place on.
 -- Assumes nothing.
-use mathlib.Core.Path.{_≡_, refl, ap, sym, _∙_}
+use mathlib.Core.Path.{_≡_, ap, sym, _∙_}
 use mathlib.Core.List.{List, [], _++_}
-use mathlib.Core.Bool.{Bool, true, false}
 use Prim.Native.Nat.{ℕ, suc, _+_, _-_, _/_, _%_, _≤_, _<_, min}
 use native.Mathlib.Omega.{arith}
 use native.Mathlib.Numerals.{add-one}
-use lib.Dec.{leb}
 use lib.ListN.{length, getD, set, take, drop, length-append, length-take, length-drop}
-use lib.Seq.{sets, length-sets, drop-cons, take-all}
-use borrow.Author.Tests.{leb-true, leb-false}
+use lib.Seq.{sets, length-sets, getD-take, getD-drop}
 use Rattle.format.specs.Bytes.{leWrite}
 use Rattle.format.proofs.ByteLaws.{le-length}
 use Rattle.format.proofs.ListLaws.{sets-append}
@@ -41,38 +38,10 @@ number-none s i w k v h =
 
 -- ---- a text
 
-pub text-more : (s t : List ℕ) (at start n k : ℕ) → k < n → start + k < length t
-    → sets (set s (at + k) (getD t (start + k) 0)) (at + (k + 1)) (take (n - (k + 1)) (drop (start + (k + 1)) t))
-    ≡ sets s (at + k) (take (n - k) (drop (start + k) t))
-text-more s t at start n k h l =
-    let e : n - k ≡ suc (n - (k + 1)) = omega arith in
-    let f : at + (k + 1) ≡ suc (at + k) = omega arith in
-    let g : start + (k + 1) ≡ suc (start + k) = omega arith in
-    rw (e, f, g, drop-cons t (start + k) 0 l)
-
-pub text-none : (s t : List ℕ) (i n k : ℕ) → n ≤ k → sets s i (take (n - k) t) ≡ s
-text-none s t i n k h =
-    let e : n - k ≡ 0 = omega arith in
-    rw e
-
--- No more than there is.
-pub take-least : {A : Type 0} (a m : ℕ) (l : List A) → m ≡ min a (length l) → take m l ≡ take a l
-take-least a m l e = go (leb a (length l)) refl
-  where
-    go : (b : Bool) → leb a (length l) ≡ b → take m l ≡ take a l
-    go true q =
-        let z : m ≡ a = omega (arith, leb-true a (length l) q) in
-        ap (λ (n : ℕ). take n l) z
-    go false q =
-        take-all m l (omega (arith, leb-false a (length l) q)) ∙ sym (take-all a l (omega (arith, leb-false a (length l) q)))
-
-pub text-start : (s t : List ℕ) (at start len n : ℕ) → n ≡ min len (length t - start)
-    → sets s (at + 0) (take (n - 0) (drop (start + 0) t)) ≡ sets s at (take len (drop start t))
-text-start s t at start len n e =
-    let f : at + 0 ≡ at = omega arith in
-    let g : n - 0 ≡ n = omega arith in
-    let h : start + 0 ≡ start = omega arith in
-    rw (f, g, h) (ap (sets s at) (take-least len n (drop start t) (e ∙ ap (min len) (sym (length-drop start t)))))
+-- A byte of it.
+pub text-byte : (t : List ℕ) (start len k : ℕ) → k < length (take len (drop start t)) → getD t (start + k) 0 ≡ getD (take len (drop start t)) k 0
+text-byte t start len k h =
+    sym (getD-take len (drop start t) k 0 (omega (arith, length-take len (drop start t))) ∙ getD-drop start t k 0)
 
 pub text-length : (t : List ℕ) (start len : ℕ) → length (take len (drop start t)) ≡ min len (length t - start)
 text-length t start len = simp (length-take, length-drop)

@@ -1,32 +1,17 @@
--- Bytes stored from a place on, in either direction: what is still to be stored makes the same room as all of it.
+-- A number stored from its last digit on, and texts one after the other: what is still to be stored makes the same room as all of it.
 -- Assumes nothing.
 use mathlib.Core.Path.{_≡_, refl, sym, ap, _∙_}
 use mathlib.Core.List.{List, [], _∷_, _++_}
 use Prim.Native.Nat.{ℕ, zero, suc, _+_, _-_, _/_, _%_, _≤_, _<_}
-use native.Mathlib.Numerals.{add-one}
 use native.Mathlib.Nat.{sub-zero, zero-sub, suc-sub-suc}
 use native.Mathlib.Omega.{arith}
-use lib.ListN.{length, getD, set, drop, replicate, drop-of-length-le, length-append}
-use lib.Seq.{sets, set-comm, drop-cons}
+use lib.ListN.{length, set, drop, replicate, length-append}
+use lib.Seq.{sets, set-comm}
 use Rattle.dem.specs.Track.{digitZero}
 use Rattle.format.proofs.ListLaws.{sets-append, sets-front}
 use Rattle.report.specs.declared.Line.{Line}
 use Rattle.report.specs.Lines.{lineRoom, padded}
 use Rattle.report.proofs.DigitLaws.{lastText, last-length}
-
--- ---- a text, from its first byte
-
-pub text-more : (s t : List ℕ) (at k : ℕ) → k < length t
-    → sets (set s (at + k) (getD t k 0)) (at + (k + 1)) (drop (k + 1) t) ≡ sets s (at + k) (drop k t)
-text-more s t at k h =
-    let f : at + (k + 1) ≡ suc (at + k) = omega arith in
-    rw (f, drop-cons t k 0 h, add-one k)
-
-pub text-start : (s t : List ℕ) (at : ℕ) → sets s (at + 0) (drop 0 t) ≡ sets s at t
-text-start s t at = ap (λ (n : ℕ). sets s n t) (omega arith)
-
-pub text-none : (s t : List ℕ) (i k : ℕ) → length t ≤ k → sets s i (drop k t) ≡ s
-text-none s t i k h = rw (drop-of-length-le t {i = k} h)
 
 -- ---- a number, from its last digit
 

@@ -1,20 +1,21 @@
 -- `dem_stream::move_front` meets its contract: from the place reached on the room is as it was, so what is put next is what stood there at first.
 -- Assumes nothing.
-use mathlib.Core.Path.{_≡_, refl, sym, ap, ap₂, _∙_}
+use mathlib.Core.Path.{_≡_, refl, sym, ap, _∙_}
 use mathlib.Core.List.{List}
-use Prim.Native.Nat.{ℕ, _+_, _-_, _<_, _≤_, min}
+use Prim.Native.Nat.{ℕ, _+_, _-_, _<_, _≤_}
 use native.Mathlib.Omega.{arith}
 use borrow.Author.Needs.{needs}
 use lib.ListN.{length, getD, set, take, drop, length-set}
 use lib.Seq.{sets, getD-drop, drop-drop, drop-set-lt}
-use Rattle.dem_writer.proofs.RoomLaws.{text-start, text-more, text-none, text-length}
+use Rattle.format.proofs.ListLaws.{left-more, left-none}
+use Rattle.dem_writer.proofs.RoomLaws.{text-length, text-byte}
 use Rattle.dem_stream.proofs.move_front.Statement.{statement}
 use Rattle.dem_stream.proofs.move_front.Tie as tie
 
 abbrev Inv-loop : tie.InvT-loop
 Inv-loop room₀ from to n k₀ room k =
-    (k ≤ n) × (n ≡ min (to - from) (length room₀ - from)) × (length room ≡ length room₀) × (drop k room ≡ drop k room₀)
-    × (sets room (0 + k) (take (n - k) (drop (from + k) room₀)) ≡ sets room₀ 0 (take (to - from) (drop from room₀)))
+    let t = take (to - from) (drop from room₀) in
+    (k ≤ n) × (n ≡ length t) × (length room ≡ length room₀) × (drop k room ≡ drop k room₀) × (sets room k (drop k t) ≡ sets room₀ 0 t)
 
 abbrev μ-loop : tie.MeasureT-loop
 μ-loop room₀ from to n k₀ room k = n - k
@@ -35,17 +36,17 @@ count-between-requires c κs = search needs
 loop-holds : tie.Need-loop-holds Inv-loop μ-loop
 loop-holds c =
     let a = c .before .before .args in
-    let e = c .count-between .ensures in
-    (search needs, e, refl, refl, text-start (a .room .now) (a .room .now) 0 (a .from) (a .to - a .from) (c .count-between .result) e)
+    let e = c .count-between .ensures ∙ sym (text-length (a .room .now) (a .from) (a .to - a .from)) in
+    (search needs, e, refl, refl, refl)
 
 add-room : tie.Need-add-room Inv-loop μ-loop
-add-room c = omega (arith, c .before .loop .inv)
+add-room c = omega (arith, c .before .loop .inv, c .before .before .count-between .ensures)
 
 slice-read-room : tie.Need-slice-read-room Inv-loop μ-loop
-slice-read-room c = omega (arith, c .before .before .loop .inv)
+slice-read-room c = omega (arith, c .before .before .loop .inv, c .before .before .before .count-between .ensures)
 
 slice-write-room : tie.Need-slice-write-room Inv-loop μ-loop
-slice-write-room c = omega (arith, c .before .before .loop .inv)
+slice-write-room c = omega (arith, c .before .before .loop .inv, c .before .before .before .count-between .ensures)
 
 add-k : tie.Need-add-k Inv-loop μ-loop
 add-k c = search needs
@@ -57,17 +58,16 @@ loop-again : tie.Need-loop-again Inv-loop μ-loop
 loop-again c =
     let a = c .before .before .before .before .before .args in
     let l = c .before .before .loop in
-    let n = c .before .before .before .count-between .result in
+    let t = take (a .to - a .from) (drop (a .from) (a .room .now)) in
+    let h : l .k < length t = omega (arith, l .inv .1, c .before .loop-test .taken) in
     let v = getD (l .room) (a .from + l .k) 0 in
-    let at : 0 + l .k ≡ l .k = omega arith in
-    let same : v ≡ getD (a .room .now) (a .from + l .k) 0 = unmoved (l .room) (a .room .now) (a .from) (l .k) (l .inv .3) in (
+    let same : v ≡ getD t (l .k) 0 =
+    unmoved (l .room) (a .room .now) (a .from) (l .k) (l .inv .3) ∙ text-byte (a .room .now) (a .from) (a .to - a .from) (l .k) h in (
       search needs,
       l .inv .1,
       length-set (l .room) (l .k) v ∙ l .inv .2,
       later (l .room) (a .room .now) (l .k) v (l .inv .3),
-      ap₂ (λ (i x : ℕ). sets (set (l .room) i x) (0 + (l .k + 1)) (take (n - (l .k + 1)) (drop (a .from + (l .k + 1)) (a .room .now)))) (sym at) same
-          ∙ text-more (l .room) (a .room .now) 0 (a .from) n (l .k) (search needs) (omega (arith, l .inv, c .before .loop-test .taken))
-          ∙ l .inv .4,
+      left-more (l .room) t (l .k) (l .k + 1) (l .k) v refl h same ∙ l .inv .4,
     )
 
 same-length : tie.Need-same-length Inv-loop μ-loop
@@ -77,10 +77,9 @@ returns : tie.Need-returns Inv-loop μ-loop
 returns c =
     let a = c .before .before .before .before .args in
     let l = c .before .loop in
-    let n = c .before .before .count-between .result in (
-      sym (text-none (l .room) (drop (a .from + l .k) (a .room .now)) (0 + l .k) n (l .k) (search needs)) ∙ l .inv .4,
-      (l .inv .1 ∙ sym (text-length (a .room .now) (a .from) (a .to - a .from)), omega (arith, l .inv .1)),
-    )
+    let t = take (a .to - a .from) (drop (a .from) (a .room .now)) in
+    let h : length t ≤ l .k = omega (arith, l .inv .1, c .loop-test .left) in
+    (sym (left-none (l .room) t (l .k) (l .k) h) ∙ l .inv .4, (l .inv .1, omega (arith, l .inv .1)))
 
 pub move-front-spec : {M : Type 1} → statement M
 move-front-spec =

@@ -1,19 +1,20 @@
 -- `dem_writer::put_text` meets its contract: what is left of the text, put from the place reached on, makes the room that is asked for.
 -- Assumes nothing.
 use mathlib.Core.Path.{_≡_, refl, sym, ap, _∙_}
-use Prim.Native.Nat.{_+_, _-_, _≤_, min}
+use Prim.Native.Nat.{_+_, _-_, _≤_, _<_}
 use native.Mathlib.Omega.{arith}
 use borrow.Author.Needs.{needs}
 use lib.ListN.{length, getD, take, drop, length-set}
 use lib.Seq.{sets}
-use Rattle.dem_writer.proofs.RoomLaws.{text-start, text-more, text-none, text-length}
+use Rattle.format.proofs.ListLaws.{left-start, left-more, left-none}
+use Rattle.dem_writer.proofs.RoomLaws.{text-length, text-byte}
 use Rattle.dem_writer.proofs.put_text.Statement.{statement}
 use Rattle.dem_writer.proofs.put_text.Tie as tie
 
 abbrev Inv-loop : tie.InvT-loop
 Inv-loop room₀ at text start len n k₀ room k =
-    (k ≤ n) × (n ≡ min len (length text - start)) × (at + n ≤ length room₀) × (length room ≡ length room₀)
-    × (sets room (at + k) (take (n - k) (drop (start + k) text)) ≡ sets room₀ at (take len (drop start text)))
+    let t = take len (drop start text) in
+    (k ≤ n) × (n ≡ length t) × (at + n ≤ length room₀) × (length room ≡ length room₀) × (sets room (at + k) (drop k t) ≡ sets room₀ at t)
 
 abbrev μ-loop : tie.MeasureT-loop
 μ-loop room₀ at text start len n k₀ room k = n - k
@@ -24,13 +25,9 @@ text-size-requires c κs = search needs
 loop-holds : tie.Need-loop-holds Inv-loop μ-loop
 loop-holds c =
     let a = c .before .before .before .args in
-    let e = c .text-size .ensures in (
-      search needs,
-      e,
-      omega (arith, e, text-length (a .text .now) (a .start) (a .len)),
-      refl,
-      text-start (a .room .now) (a .text .now) (a .at) (a .start) (a .len) (c .text-size .result) e,
-    )
+    let t = take (a .len) (drop (a .start) (a .text .now)) in
+    let e : c .text-size .result ≡ length t = c .text-size .ensures ∙ sym (text-length (a .text .now) (a .start) (a .len)) in
+    (search needs, e, omega (arith, e), refl, left-start (a .room .now) t (a .at))
 
 add-room : tie.Need-add-room Inv-loop μ-loop
 add-room c = search needs
@@ -53,12 +50,14 @@ loop-less c = search needs
 loop-again : tie.Need-loop-again Inv-loop μ-loop
 loop-again c =
     let a = c .before .before .before .before .before .before .args in
-    let l = c .before .before .loop in (
+    let l = c .before .before .loop in
+    let t = take (a .len) (drop (a .start) (a .text .now)) in
+    let h : l .k < length t = omega (arith, l .inv .1, c .before .loop-test .taken) in (
       search needs,
       l .inv .1,
       l .inv .2,
       length-set (l .room) (a .at + l .k) (getD (a .text .now) (a .start + l .k) 0) ∙ l .inv .3,
-      text-more (l .room) (a .text .now) (a .at) (a .start) (c .before .before .before .text-size .result) (l .k) (search needs) (search needs)
+      left-more (l .room) t (a .at + l .k) (a .at + (l .k + 1)) (l .k) _ (omega arith) h (text-byte (a .text .now) (a .start) (a .len) (l .k) h)
           ∙ l .inv .4,
     )
 
@@ -72,10 +71,9 @@ returns : tie.Need-returns Inv-loop μ-loop
 returns c =
     let a = c .before .before .before .before .before .args in
     let l = c .before .loop in
-    let n = c .before .before .text-size .result in (
-      sym (text-none (l .room) (drop (a .start + l .k) (a .text .now)) (a .at + l .k) n (l .k) (search needs)) ∙ l .inv .4,
-      ap (_+_ (a .at)) (l .inv .1 ∙ sym (text-length (a .text .now) (a .start) (a .len))),
-    )
+    let t = take (a .len) (drop (a .start) (a .text .now)) in
+    let h : length t ≤ l .k = omega (arith, l .inv .1, c .loop-test .left) in
+    (sym (left-none (l .room) t (a .at + l .k) (l .k) h) ∙ l .inv .4, ap (_+_ (a .at)) (l .inv .1))
 
 pub put-text-spec : {M : Type 1} → statement M
 put-text-spec =

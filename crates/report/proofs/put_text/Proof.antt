@@ -2,10 +2,11 @@
 -- Assumes nothing.
 use mathlib.Core.Path.{_≡_, refl, sym, _∙_}
 use Prim.Native.Nat.{_+_, _-_, _≤_}
+use native.Mathlib.Omega.{arith}
 use borrow.Author.Needs.{needs}
 use lib.ListN.{length, getD, drop, length-set}
 use lib.Seq.{sets}
-use Rattle.report.proofs.RoomLaws.{text-start, text-more, text-none}
+use Rattle.format.proofs.ListLaws.{left-start, left-more, left-none}
 use Rattle.report.proofs.put_text.Statement.{statement}
 use Rattle.report.proofs.put_text.Tie as tie
 
@@ -16,7 +17,7 @@ abbrev μ-loop : tie.MeasureT-loop
 μ-loop room₀ at text k₀ room k = length text - k
 
 loop-holds : tie.Need-loop-holds Inv-loop μ-loop
-loop-holds c = let a = c .args in (search needs, refl, text-start (a .room .now) (a .text .now) (a .at))
+loop-holds c = let a = c .args in (search needs, refl, left-start (a .room .now) (a .text .now) (a .at))
 
 shared-slice-read-room : tie.Need-shared-slice-read-room Inv-loop μ-loop
 shared-slice-read-room c = search needs
@@ -39,7 +40,7 @@ loop-again c =
     let l = c .before .before .loop in (
       search needs,
       length-set (l .room) (a .at + l .k) (getD (a .text .now) (l .k) 0) ∙ l .inv .1,
-      text-more (l .room) (a .text .now) (a .at) (l .k) (search needs) ∙ l .inv .2,
+      left-more (l .room) (a .text .now) (a .at + l .k) (a .at + (l .k + 1)) (l .k) _ (omega arith) (search needs) refl ∙ l .inv .2,
     )
 
 add-result : tie.Need-add-result Inv-loop μ-loop
@@ -52,7 +53,7 @@ returns : tie.Need-returns Inv-loop μ-loop
 returns c =
     let a = c .before .before .args in
     let l = c .before .loop in
-    (sym (text-none (l .room) (a .text .now) (a .at + l .k) (l .k) (search needs)) ∙ l .inv .2, refl)
+    (sym (left-none (l .room) (a .text .now) (a .at + l .k) (l .k) (search needs)) ∙ l .inv .2, refl)
 
 pub put-text-spec : {M : Type 1} → statement M
 put-text-spec =

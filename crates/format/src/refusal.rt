@@ -1,8 +1,5 @@
 // The refusals, as specs/Refusal.antt numbers them.
 
-// No refusal.
-pub const NONE: u8 = 0;
-
 pub const WRONG_TRACK: u8 = 1;
 // A block's head or body ends early.
 pub const CUT_BLOCK: u8 = 2;

@@ -16,7 +16,8 @@ use mir.Syntax.{w16}
 use mir.Val.{toZ, ofZ, SFits}
 use mir.ValLaws.{toZ-ofZ}
 use Rattle.format.specs.Bytes.{Bytes, Result, found, refused, mapResult}
-use Rattle.dem.specs.Track.{TrackLine, minusSign, lineFeed, digitZero, readTrack, trackNumber, digitsOf, normalTrack, digitBytes, writeTrack}
+use Rattle.format.specs.Digits.{lineFeed, digitZero}
+use Rattle.dem.specs.Track.{TrackLine, minusSign, readTrack, trackNumber, digitsOf, normalTrack, digitBytes, writeTrack}
 use Rattle.format.proofs.ResultLaws.{clash}
 use Rattle.dem.proofs.TrackLaws.{track-sound, track-range, digit-length}
 use Rattle.dem_framing.specs.Tracks.{trackOf}

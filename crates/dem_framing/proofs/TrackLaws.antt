@@ -17,7 +17,8 @@ use mir.Val.{toZ, ofZ, SFits}
 use mir.ValLaws.{toZ-pos, toZ-ofZ}
 use Rattle.format.specs.Refusal.{code, wrongTrack}
 use Rattle.format.specs.Bytes.{Result, found, refused, mapResult}
-use Rattle.dem.specs.Track.{minusSign, lineFeed, digitZero, mostDigits, isDigit, readDigits, lineOf, readTrack, decimal, trackNumber}
+use Rattle.format.specs.Digits.{lineFeed, digitZero, decimal}
+use Rattle.dem.specs.Track.{minusSign, mostDigits, isDigit, readDigits, lineOf, readTrack, trackNumber}
 use Rattle.format.proofs.ResultLaws.{clash}
 use Rattle.format.proofs.LayoutLaws.{and-true}
 use Rattle.dem_framing.specs.Tracks.{answerAt, digitsFrom}

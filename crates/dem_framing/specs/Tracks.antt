@@ -6,7 +6,8 @@ use lib.IntN.{ℤ}
 use lib.ListN.{drop}
 use lib.Dec.{ltb, eqb}
 use Rattle.format.specs.Bytes.{Result, found, refused, mapResult}
-use Rattle.dem.specs.Track.{mostDigits, readDigits, decimal}
+use Rattle.format.specs.Digits.{decimal}
+use Rattle.dem.specs.Track.{mostDigits, readDigits}
 use Rattle.dem_framing.specs.declared.TrackAt.{TrackAt}
 
 -- A value and the bytes behind it, or a refusal and the bytes from the wrong one on.

@@ -10,8 +10,8 @@ use lib.Dec.{ltb, eqb}
 use lib.ListN.{length, length-append}
 use Rattle.format.specs.Refusal.{code, wrongTrack}
 use Rattle.format.specs.Bytes.{Result, found, refused, mapResult}
-use Rattle.dem.specs.Track.{TrackLine, trackNumber, normalTrack, writeTrack, lineFeed, digitZero, minusSign, isDigit, mostDigits, lineOf, readDigits}
-use Rattle.dem.specs.Track.{readTrack}
+use Rattle.format.specs.Digits.{lineFeed, digitZero}
+use Rattle.dem.specs.Track.{TrackLine, trackNumber, normalTrack, writeTrack, minusSign, isDigit, mostDigits, lineOf, readDigits, readTrack}
 use Rattle.format.specs.Answer.{placeIn, result, refusal, reply, written, intoRoom}
 use Rattle.dem.specs.Answer.{trackNormalOf, trackNormal}
 use Rattle.dem_stream.specs.Pieces.{Piece, unused, longestLine, firstLine}

@@ -1,6 +1,7 @@
 pub mod Limits
 pub mod Refusal
 pub mod Bytes
+pub mod Digits
 pub mod Floats
 pub mod Layout
 pub mod Masked

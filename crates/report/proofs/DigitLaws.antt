@@ -8,7 +8,7 @@ use native.Mathlib.Omega.{arith}
 use borrow.Author.Tests.{lt-ltb, le-ltb, ltb-true, ltb-false}
 use lib.Dec.{ltb}
 use lib.ListN.{length, length-append}
-use Rattle.dem.specs.Track.{digitZero, decimal, Digits}
+use Rattle.format.specs.Digits.{digitZero, decimal, Digits}
 use Rattle.format.proofs.ResultLaws.{clash}
 use Rattle.report.specs.Lines.{decimalDigits, mostDigits, decimalText, refusalLine}
 

@@ -7,7 +7,7 @@ use native.Mathlib.Nat.{sub-zero, zero-sub, suc-sub-suc}
 use native.Mathlib.Omega.{arith}
 use lib.ListN.{length, set, drop, replicate, length-append}
 use lib.Seq.{sets, set-comm}
-use Rattle.dem.specs.Track.{digitZero}
+use Rattle.format.specs.Digits.{digitZero}
 use Rattle.format.proofs.ListLaws.{sets-append, sets-front}
 use Rattle.report.specs.declared.Line.{Line}
 use Rattle.report.specs.Lines.{lineRoom, padded}

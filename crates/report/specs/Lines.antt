@@ -4,7 +4,7 @@ use mathlib.Core.Bool.{cond}
 use Prim.Native.Nat.{ℕ, zero, suc, _+_, _-_, _/_, _%_}
 use lib.Dec.{ltb}
 use lib.ListN.{length, replicate}
-use Rattle.dem.specs.Track.{digitZero, lineFeed}
+use Rattle.format.specs.Digits.{digitZero, lineFeed}
 use Rattle.report.specs.declared.Line.{Line}
 
 -- The digits of a number that has at most so many, without needless zeros.

@@ -8,7 +8,8 @@ use borrow.Author.Tests.{not-true, not-false}
 use lib.Dec.{ltb, lit<, lit≤}
 use lib.ListN.{length, getD}
 use native.Mathlib.Omega.{arith}
-use Rattle.dem.specs.Track.{mostDigits, digitZero, isDigit}
+use Rattle.format.specs.Digits.{digitZero}
+use Rattle.dem.specs.Track.{mostDigits, isDigit}
 use Rattle.dem_framing.specs.Tracks.{digitsFrom}
 use Rattle.dem_framing.proofs.TrackLaws.{line-end, line-cut, line-wrong, line-digit, another-digit, value-below, value-grows}
 use Rattle.dem_framing.proofs.read_digits.Statement.{statement}

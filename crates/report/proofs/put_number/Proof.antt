@@ -5,7 +5,7 @@ use Prim.Native.Nat.{_+_, _-_, _%_, _≤_}
 use borrow.Author.Needs.{needs}
 use lib.ListN.{length, length-set}
 use lib.Seq.{sets}
-use Rattle.dem.specs.Track.{digitZero}
+use Rattle.format.specs.Digits.{digitZero}
 use Rattle.report.specs.Lines.{mostDigits, decimalText}
 use Rattle.report.proofs.DigitLaws.{digits-most, lastText, last-length, text-last}
 use Rattle.report.proofs.RoomLaws.{number-down, number-none}

@@ -4,7 +4,7 @@ use mathlib.Core.Path.{refl}
 use mathlib.Core.List.{[], _∷_}
 use borrow.Author.Needs.{needs}
 use lib.ListN.{replicate}
-use Rattle.dem.specs.Track.{lineFeed}
+use Rattle.format.specs.Digits.{lineFeed}
 use Rattle.report.specs.Lines.{refusedText, atText, decimalText, refusalLine, lineRoom}
 use Rattle.report.proofs.RoomLaws.{stored-none, stored-more, stored-all}
 use Rattle.report.proofs.refusal_line.Statement.{statement}

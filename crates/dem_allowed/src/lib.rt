@@ -145,7 +145,7 @@ fn pose_fits(mask: u16, p: Pose) -> bool
 fn source_fits(channel: u8, entity: Entity) -> bool
     ensures { λ r. ⌜ r ≡ sourceTest channel entity ⌝ }
 {
-    (channel < 8) & (entity.0 < ENTITY_BOUND)
+    (channel < sound::CHANNEL_BOUND) & (entity.0 < ENTITY_BOUND)
 }
 
 // No reserved bit of the mask is set.

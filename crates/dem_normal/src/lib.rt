@@ -23,6 +23,7 @@ use dem::kind;
 use dem::limit::DEFAULT_ATTENUATION;
 use dem::limit::DEFAULT_VIEW_HEIGHT_BITS;
 use dem::limit::DEFAULT_VOLUME;
+use dem::sound::CHANNEL_FACTOR;
 use dem_scene::Baseline;
 use dem_scene::Client;
 use dem_scene::FilledSound;
@@ -369,7 +370,7 @@ fn put_place(out: &mut [u8], at: usize, s: FilledSound) -> usize
 {
     let e = s.entity;
     let v = s.origin;
-    let both = ((e.0 as u32) * 8 + (s.channel as u32)) % 65536;
+    let both = ((e.0 as u32) * CHANNEL_FACTOR + (s.channel as u32)) % 65536;
     let a = put_short_if(out, at, true, both as u16);
     let b = put_byte_if(out, a, true, s.sound);
     put_vector(out, b, v)

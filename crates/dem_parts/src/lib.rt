@@ -6,6 +6,7 @@ ghost use Rattle.wire.specs.Cursors.{gotten, parseAt};
 ghost use Rattle.dem_types.specs.Values.{vectorValues, lookValues, poseValues};
 ghost use Rattle.dem_parts.specs.Kinds.{vectorLayout, lookLayout, poseLayout, sourceLayout, entityAt};
 use dem::limit::ENTITY_BOUND;
+use dem::sound::CHANNEL_COUNT;
 use dem_types::Entity;
 use dem_types::Look;
 use dem_types::Message;
@@ -118,10 +119,15 @@ pub fn read_source(s: &[u8], c: Cursor) -> SourceAt
 {
     let w = wire::read_word(s, c);
     let both = w.value;
-    let entity = Entity(both / 8);
-    let cursor = wire::refuse_if(w.cursor, c.at, ENTITY_BOUND <= both / 8, WRONG_NUMBER);
+    let entity = Entity(both / CHANNEL_COUNT);
+    let cursor = wire::refuse_if(
+        w.cursor,
+        c.at,
+        ENTITY_BOUND <= both / CHANNEL_COUNT,
+        WRONG_NUMBER,
+    );
     SourceAt {
-        channel: (both % 8) as u8,
+        channel: (both % CHANNEL_COUNT) as u8,
         entity,
         cursor,
     }

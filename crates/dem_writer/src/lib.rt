@@ -316,7 +316,7 @@ fn serverinfo(s: Serverinfo) -> Pieces
 fn source(channel: u8, entity: Entity) -> u32
     ensures { λ r. ⌜ r ≡ entity .0 * 8 + channel ⌝ }
 {
-    (entity.0 as u32) * 8 + (channel as u32)
+    (entity.0 as u32) * dem::sound::CHANNEL_FACTOR + (channel as u32)
 }
 
 fn sound(s: Sound) -> Pieces

@@ -1,8 +1,8 @@
 -- A scene with other tables, and an update of one entity.
 -- Assumes nothing.
-use mathlib.Core.Path.{_≡_, refl, sym, ap, _∙_, subst}
+use mathlib.Core.Path.{_≡_, sym, ap, ap₂, _∙_, subst}
 use mathlib.Core.List.{List, [], _∷_, map}
-use mathlib.Core.Bool.{Bool, true, false, not}
+use mathlib.Core.Bool.{Bool, true, false, not, _||_}
 use Prim.Native.Nat.{ℕ, _≤_, _<_}
 use borrow.Author.Tests.{le-leb}
 use lib.Dec.{T}
@@ -13,6 +13,7 @@ use Rattle.format.specs.Layout.{Value, number, numbers, tail}
 use Rattle.dem.specs.Scene.{Scene, Baseline, baselineAt}
 use Rattle.dem.specs.Message.{fillUpdate, fill, apply}
 use Rattle.dem.proofs.MessageLaws.{fill-update}
+use Rattle.dem.proofs.SceneLaws.{Part, baselines, records, present, changes, Unchanged, filled-frame}
 use Rattle.dem_types.specs.Values.{updateValues, valuesBy}
 use Rattle.dem_types.specs.declared.Entity.{Entity}
 use Rattle.dem_types.specs.declared.Look.{Look}
@@ -24,6 +25,7 @@ use types.Run.{OneOf, miss}
 use mir.Val.{hasKey}
 use Rattle.wire.specs.declared.Text.{Text}
 use Rattle.dem_types.proofs.Message as Messages
+use Rattle.dem_types.proofs.ByNumber.{updatePlace, by-number, not-at}
 use Rattle.dem_types.specs.declared.Message.{Message as Sent}
 use Rattle.dem_types.specs.declared.Message.the-variants as M
 use Rattle.dem_scene.specs.Views.{recordValues, baselineNumbers, BaselineOf, sceneWith, withTables}
@@ -84,41 +86,14 @@ others-tableless m h =
 pub tables-kept : (s : Scene) (t : Text → List ℕ) (m : Sent) → Tableless m
     → (apply s (fill s (valuesBy t m)) .baselines ≡ s .baselines) × (apply s (fill s (valuesBy t m)) .records ≡ s .records)
     × (apply s (fill s (valuesBy t m)) .present ≡ s .present)
-unfolding apply fill
-tables-kept s t M.Nop h = (refl, refl, refl)
-tables-kept s t M.Disconnect h = (refl, refl, refl)
-tables-kept s t (M.Stat _ _) h = (refl, refl, refl)
-tables-kept s t (M.Version _) h = (refl, refl, refl)
-tables-kept s t (M.View _) h = (refl, refl, refl)
-tables-kept s t (M.Sound _) h = (refl, refl, refl)
-tables-kept s t (M.Time v) h = absurd (h .time v refl)
-tables-kept s t (M.Print _) h = (refl, refl, refl)
-tables-kept s t (M.Stufftext _) h = (refl, refl, refl)
-tables-kept s t (M.SetAngles _ _ _) h = (refl, refl, refl)
-tables-kept s t (M.Serverinfo i) h = absurd (h .serverinfo i refl)
-tables-kept s t (M.Style _ _) h = (refl, refl, refl)
-tables-kept s t (M.Name _ _) h = (refl, refl, refl)
-tables-kept s t (M.Frags _ _) h = (refl, refl, refl)
-tables-kept s t (M.Clientdata _) h = (refl, refl, refl)
-tables-kept s t (M.Stopsound _ _) h = (refl, refl, refl)
-tables-kept s t (M.Colours _ _) h = (refl, refl, refl)
-tables-kept s t (M.Particle _) h = (refl, refl, refl)
-tables-kept s t (M.Damage _ _ _) h = (refl, refl, refl)
-tables-kept s t (M.Static _ _) h = (refl, refl, refl)
-tables-kept s t (M.Baseline e l p) h = absurd (h .baseline e l p refl)
-tables-kept s t (M.Temporary _) h = (refl, refl, refl)
-tables-kept s t (M.Pause _) h = (refl, refl, refl)
-tables-kept s t (M.Signon _) h = (refl, refl, refl)
-tables-kept s t (M.Centerprint _) h = (refl, refl, refl)
-tables-kept s t M.Killed h = (refl, refl, refl)
-tables-kept s t M.Secret h = (refl, refl, refl)
-tables-kept s t (M.StaticSound _ _ _ _) h = (refl, refl, refl)
-tables-kept s t M.Intermission h = (refl, refl, refl)
-tables-kept s t (M.Finale _) h = (refl, refl, refl)
-tables-kept s t (M.Track _ _) h = (refl, refl, refl)
-tables-kept s t M.Sellscreen h = (refl, refl, refl)
-tables-kept s t (M.Cutscene _) h = (refl, refl, refl)
-tables-kept s t (M.Update u) h = absurd (h .update u refl)
+tables-kept s t m h =
+    let k = by-number t m (not-at updatePlace m (λ x. h .update (x .0))) in
+    let time = k .other 6 (not-at 6 m (λ x. h .time (x .0))) in
+    let serverinfo = k .other 10 (not-at 10 m (λ x. h .serverinfo (x .0))) in
+    let baseline = k .other 20 (not-at 20 m (λ x. h .baseline (x .0) (x .1 .0) (x .1 .1 .0))) in
+    let kept : (p : Part) → changes (k .n) p ≡ false → Unchanged p s (apply s (fill s (valuesBy t m))) =
+    λ p e. subst (λ (vs : List Value). Unchanged p s (apply s (fill s vs))) (sym (k .is)) (filled-frame p s (k .n) (k .us) (k .low) e serverinfo) in
+    (kept baselines baseline, kept records (k .low), kept present (ap₂ _||_ (k .low) time))
 
 -- A scene from its tables and its rest.
 pub rest-joined : (s : Scene) (x : Rest) (b e : List (List ℕ)) (p : List Bool) → sceneWith [] [] [] x ≡ withTables [] [] [] s
@@ -138,4 +113,4 @@ noUpdate =
     0 ∷ 1 ∷ 2 ∷ 3 ∷ 4 ∷ 5 ∷ 6 ∷ 7 ∷ 8 ∷ 9 ∷ 10 ∷ 11 ∷ 12 ∷ 13 ∷ 14 ∷ 15 ∷ 16 ∷ 17 ∷ 18 ∷ 19 ∷ 20 ∷ 21 ∷ 22 ∷ 23 ∷ 24 ∷ 25 ∷ 26 ∷ 27 ∷ 28 ∷ 29 ∷ 30 ∷ 31 ∷ 32 ∷ []
 
 pub of-other : (s : Scene) (m : Sent) (b : Held) → OneOf noUpdate (tagOf Messages.the-type m) → BaselineOf s m b
-of-other s m b h u e = absurd (miss noUpdate 33 tt (subst (λ (k : Sent). OneOf noUpdate (tagOf Messages.the-type k)) e h))
+of-other s m b h u e = absurd (not-among noUpdate m (M.Update u) h tt e)

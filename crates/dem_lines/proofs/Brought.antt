@@ -1,11 +1,12 @@
 -- What a message brings to the lines: frags, colours and serverinfo a change, every other message none; and what is told of a message with the lines lent.
 -- Assumes nothing.
-use mathlib.Core.Path.{_≡_, refl, sym, ap, _∙_}
+use mathlib.Core.Path.{_≡_, refl, sym, ap, ap₂, _∙_}
+use mathlib.Core.Logic.{_⊎_, inl, inr}
+use mathlib.Core.Bool.{_||_}
 use mathlib.Core.List.{List, [], _∷_}
 use Prim.Native.Nat.{ℕ}
 use borrow.Author.Tests.{ne-eqb}
-use denote.Enum.Declared.{tagOf}
-use types.Run.{OneOf, miss}
+use types.Run.{OneOf}
 use lib.ListN.{length}
 use Rattle.format.specs.Bytes.{Bytes}
 use Rattle.format.specs.Layout.{Value, tail}
@@ -14,9 +15,11 @@ use Rattle.dem.specs.Message.{Message as Values, apply, fill}
 use Rattle.format.specs.Answer.{Answer, refusal, Item, Reply, reply}
 use Rattle.dem.specs.Answer.{messageAt}
 use Rattle.dem.proofs.MessageLaws.{fill-update}
+use Rattle.dem.proofs.SceneLaws.{players, filled-frame}
 use Rattle.wire.specs.Cursors.{placed}
 use Rattle.wire.specs.declared.Text.{Text}
-use Rattle.dem_types.proofs.Message as Messages
+use Rattle.dem_types.proofs.ByNumber.{placeOf, ByNumber, told, not-among}
+use Rattle.dem_types.specs.declared.Update.{Update}
 use Rattle.dem_types.specs.declared.Message.{Message}
 use Rattle.dem_types.specs.declared.Message.the-variants as M
 use Rattle.dem_types.specs.Places.{valuesTo}
@@ -40,43 +43,21 @@ use Rattle.dem_lines.proofs.Lending.{not-sixteen, message-refused, line
 abbrev others : List ℕ
 others = 0 ∷ 1 ∷ 2 ∷ 3 ∷ 4 ∷ 5 ∷ 6 ∷ 7 ∷ 8 ∷ 9 ∷ 11 ∷ 12 ∷ 14 ∷ 15 ∷ 17 ∷ 18 ∷ 19 ∷ 20 ∷ 21 ∷ 22 ∷ 23 ∷ 24 ∷ 25 ∷ 26 ∷ 27 ∷ 28 ∷ 29 ∷ 30 ∷ 31 ∷ 32 ∷ 33 ∷ []
 
-pub others-bring : (m : Message) → OneOf others (tagOf Messages.the-type m) → (s : Scene) (t : Text → List ℕ) → Numbered m
+pub others-bring : (m : Message) → OneOf others (placeOf m) → (s : Scene) (t : Text → List ℕ) → Numbered m
     → s .players ≡ apply s (fill s (valuesBy t m)) .players
-unfolding apply fill
-others-bring M.Nop h s t n = refl
-others-bring M.Disconnect h s t n = refl
-others-bring (M.Stat _ _) h s t n = refl
-others-bring (M.Version _) h s t n = refl
-others-bring (M.View _) h s t n = refl
-others-bring (M.Sound _) h s t n = refl
-others-bring (M.Time _) h s t n = refl
-others-bring (M.Print _) h s t n = refl
-others-bring (M.Stufftext _) h s t n = refl
-others-bring (M.SetAngles _ _ _) h s t n = refl
-others-bring (M.Serverinfo _) h s t n = absurd (miss others 10 tt h)
-others-bring (M.Style _ _) h s t n = refl
-others-bring (M.Name _ _) h s t n = refl
-others-bring (M.Frags _ _) h s t n = absurd (miss others 13 tt h)
-others-bring (M.Clientdata _) h s t n = refl
-others-bring (M.Stopsound _ _) h s t n = refl
-others-bring (M.Colours _ _) h s t n = absurd (miss others 16 tt h)
-others-bring (M.Particle _) h s t n = refl
-others-bring (M.Damage _ _ _) h s t n = refl
-others-bring (M.Static _ _) h s t n = refl
-others-bring (M.Baseline _ _ _) h s t n = refl
-others-bring (M.Temporary _) h s t n = refl
-others-bring (M.Pause _) h s t n = refl
-others-bring (M.Signon _) h s t n = refl
-others-bring (M.Centerprint _) h s t n = refl
-others-bring M.Killed h s t n = refl
-others-bring M.Secret h s t n = refl
-others-bring (M.StaticSound _ _ _ _) h s t n = refl
-others-bring M.Intermission h s t n = refl
-others-bring (M.Finale _) h s t n = refl
-others-bring (M.Track _ _) h s t n = refl
-others-bring M.Sellscreen h s t n = refl
-others-bring (M.Cutscene _) h s t n = refl
-others-bring (M.Update u) h s t n = ap (λ (v : List Value). apply s v .players) (sym (fill-update s (u .number) (tail (updateValues u)) (n u refl)))
+unfolding apply
+others-bring m h s t n = go (told t m)
+  where
+    go : ((u : Update) × (m ≡ M.Update u)) ⊎ ByNumber t m → s .players ≡ apply s (fill s (valuesBy t m)) .players
+    go (inl (u, q)) =
+        ap (λ (v : List Value). apply s v .players) (sym (fill-update s (u .number) (tail (updateValues u)) (n u q)))
+        ∙ ap (λ (k : Message). apply s (fill s (valuesBy t k)) .players) (sym q)
+    go (inr k) =
+        let serverinfo = k .other 10 (not-among others m h 10 tt) in
+        let frags = k .other 13 (not-among others m h 13 tt) in
+        let colours = k .other 16 (not-among others m h 16 tt) in
+        sym (ap (λ (vs : List Value). apply s (fill s vs) .players) (k .is)
+        ∙ filled-frame players s (k .n) (k .us) (k .low) (ap₂ _||_ frags colours) serverinfo)
 
 -- ---- what is told of a message with the lines lent
 

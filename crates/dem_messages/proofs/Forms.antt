@@ -1,14 +1,13 @@
 -- The normal form of one message: where a mask says which fields are sent it is written anew, else it is the bytes that were read; and
 -- what an entry leaves in the room.
 -- Assumes nothing.
-use mathlib.Core.Path.{_≡_, refl, sym, ap, _∙_}
+use mathlib.Core.Path.{_≡_, sym, ap, _∙_}
 use mathlib.Core.Logic.{_≢_}
-use mathlib.Core.List.{List, [], _∷_, _++_}
+use mathlib.Core.List.{List, _∷_, _++_}
 use mathlib.Core.Bool.{Bool, cond}
 use Prim.Native.Nat.{ℕ, _+_, _-_, _<_, _≤_}
 use native.Mathlib.Omega.{arith}
 use borrow.Author.Tests.{eq-eqb, ne-eqb}
-use denote.Enum.Declared.{tagOf}
 use types.Run.{OneOf}
 use lib.Dec.{eqb}
 use lib.ListN.{length, take, drop, length-take, length-drop}
@@ -28,7 +27,7 @@ use Rattle.format.proofs.LayoutLaws.{field-length}
 use Rattle.dem.proofs.MessageLaws.{fill-update, fill-client}
 use Rattle.wire.specs.Cursors.{placed}
 use Rattle.wire.specs.declared.Text.{Text}
-use Rattle.dem_types.proofs.Message as Messages
+use Rattle.dem_types.proofs.ByNumber.{placeOf, updatePlace, not-among}
 use Rattle.dem_types.specs.declared.Message.{Message as Sent}
 use Rattle.dem_types.specs.declared.Message.the-variants as M
 use Rattle.dem_types.specs.declared.Clientdata.{Clientdata}
@@ -44,11 +43,9 @@ use Rattle.dem_scene.specs.declared.FilledSound.{FilledSound}
 use Rattle.dem_scene.specs.declared.Record.{Record}
 use Rattle.dem_scene.specs.declared.Scene.{Scene as Held}
 use Rattle.dem_normal.specs.Put.{Put}
-use Rattle.dem_normal.specs.Normal.{soundOf, soundBytes}
-use Rattle.dem_effects.proofs.Tables.{not-among}
-use Rattle.dem_normal.proofs.OtherForm.{Unmasked, other-form}
-use Rattle.dem_normal.proofs.SoundBytes.{no-sound, sound-sent}
-use Rattle.format.proofs.ResultLaws.{clash}
+use Rattle.dem_scene.proofs.Filling.{plain}
+use Rattle.dem_normal.proofs.OtherForm.{plain-form}
+use Rattle.dem_normal.proofs.SoundBytes.{sound-sent}
 use Rattle.dem_messages.specs.Replies.{answerOf, replyOf}
 use Rattle.dem_messages.specs.declared.MessageAnswer.{MessageAnswer}
 use Rattle.dem_messages.specs.declared.MessageAnswer.the-variants.{Found}
@@ -103,28 +100,16 @@ module _ (t : Scene) (f : Text → List ℕ) (m : Sent) (before form : List ℕ)
 
   pub sound-chosen : (v : Sound) (k : FilledSound) → m ≡ M.Sound v → number Kind.sound ∷ filledSoundValues k ≡ fillSound (soundValues v)
       → Put before form 0 size (print (layoutIn t) (sendSound (filledSoundValues k))) → Chosen
-  unfolding read
+  unfolding normal fill writeMessage read
   sound-chosen v k e g p =
-      other-form t f read m (record { client = λ d q. let z : M.Sound v ≡ M.Clientdata d = sym e ∙ q in clash (cc); update = λ u q. let z : M.Sound v ≡ M.Update u = sym e ∙ q in clash (cc) }) refl
-      ∙ ap (λ (n : Sent). soundBytes (contextOf t) read (soundOf n)) e ∙ sym (sound-sent (contextOf t) v k g)
+      ap (λ (n : Sent). normalBytes messages normalMessage t (valuesBy f n)) e ∙ sym (sound-sent (contextOf t) v k g)
       ∙ put-chosen before form size read _ p (some-bytes (contextOf t) _ _)
 
-  pub none-chosen : Unmasked m → ((v : Sound) → m ≡ M.Sound v → ⊥) → size ≡ 0 → Chosen
+  pub none-chosen : OneOf plain (placeOf m) → size ≡ 0 → Chosen
   unfolding read
-  none-chosen h n z =
-      other-form t f read m h refl ∙ ap (soundBytes (contextOf t) read) (no-sound m n)
-      ∙ sym (ap (λ (b : Bool). cond b read (take size form)) (eq-eqb size 0 z))
-
--- The messages that have no mask, by their places in the list of messages.
-abbrev pub others : List ℕ
-others = 0 ∷ 1 ∷ 2 ∷ 3 ∷ 4 ∷ 6 ∷ 7 ∷ 8 ∷ 9 ∷ 10 ∷ 11 ∷ 12 ∷ 13 ∷ 15 ∷ 16 ∷ 17 ∷ 18 ∷ 19 ∷ 20 ∷ 21 ∷ 22 ∷ 23 ∷ 24 ∷ 25 ∷ 26 ∷ 27 ∷ 28 ∷ 29 ∷ 30 ∷ 31 ∷ 32 ∷ []
-
-pub others-unmasked : (m : Sent) → OneOf others (tagOf Messages.the-type m) → Unmasked m
-others-unmasked m h =
-    record { client = λ d. not-among others m (M.Clientdata d) h tt; update = λ u. not-among others m (M.Update u) h tt }
-
-pub others-silent : (m : Sent) → OneOf others (tagOf Messages.the-type m) → (v : Sound) → m ≡ M.Sound v → ⊥
-others-silent m h v = not-among others m (M.Sound v) h tt
+  none-chosen h z =
+      let w = not-among plain m h in
+      plain-form t f m (w 5 tt) (w 14 tt) (w updatePlace tt) ∙ sym (ap (λ (b : Bool). cond b read (take size form)) (eq-eqb size 0 z))
 
 -- ---- into the room
 

@@ -1,6 +1,7 @@
 -- The bytes of a sound in normal form: number and mask, the fields that differ, then its place. No other message is a sound.
 -- Assumes nothing.
 use mathlib.Core.Path.{_≡_, refl, sym, ap, _∙_}
+use mathlib.Core.Logic.{inl, inr}
 use mathlib.Core.List.{List, [], _∷_, _++_}
 use mathlib.Core.Option.{Option, none, some}
 use Prim.Native.Nat.{ℕ, _+_, _*_, _%_}
@@ -16,12 +17,13 @@ use Rattle.format.proofs.MaskedLaws.{Chosen, Agree, behind, agree-below, agree-
 use Rattle.dem_types.specs.declared.Message.{Message}
 use Rattle.dem_types.specs.declared.Message.the-variants as M
 use Rattle.dem_types.specs.declared.Sound.{Sound}
+use Rattle.dem_types.proofs.ByNumber.{Variant, variant}
 use Rattle.dem_types.specs.Values.{soundValues}
 use Rattle.dem_scene.specs.Views.{filledSoundValues}
 use Rattle.dem_scene.specs.declared.FilledSound.{FilledSound}
 use Rattle.dem_normal.specs.Put.{Put}
 use Rattle.dem_normal.specs.Sent.{sentBytes}
-use Rattle.dem_normal.specs.Normal.{vectorBytes, placeBytes, soundOf}
+use Rattle.dem_normal.specs.Normal.{vectorBytes, placeBytes}
 use Rattle.dem_normal.proofs.PutLaws.{put-same, put-then, second-byte}
 use Rattle.dem_normal.proofs.UpdateBytes.{slot-bytes}
 
@@ -78,41 +80,21 @@ module _ (s : FilledSound) where
 
 -- ---- which message is a sound
 
+-- By the place of sounds in the list of messages.
+abbrev pub soundIn : (m : Message) → Variant 5 m → Option Sound
+soundIn m (inl x) = some (x .0 .0)
+soundIn m (inr q) = none
+
+-- The sound that a message is, if it is one.
+abbrev pub soundOf : Message → Option Sound
+soundOf m = soundIn m (variant 5 m)
+
 pub no-sound : (m : Message) → ((v : Sound) → m ≡ M.Sound v → ⊥) → soundOf m ≡ none
-no-sound M.Nop h = refl
-no-sound M.Disconnect h = refl
-no-sound (M.Stat _ _) h = refl
-no-sound (M.Version _) h = refl
-no-sound (M.View _) h = refl
-no-sound (M.Sound v) h = absurd (h v refl)
-no-sound (M.Time _) h = refl
-no-sound (M.Print _) h = refl
-no-sound (M.Stufftext _) h = refl
-no-sound (M.SetAngles _ _ _) h = refl
-no-sound (M.Serverinfo _) h = refl
-no-sound (M.Style _ _) h = refl
-no-sound (M.Name _ _) h = refl
-no-sound (M.Frags _ _) h = refl
-no-sound (M.Clientdata _) h = refl
-no-sound (M.Stopsound _ _) h = refl
-no-sound (M.Colours _ _) h = refl
-no-sound (M.Particle _) h = refl
-no-sound (M.Damage _ _ _) h = refl
-no-sound (M.Static _ _) h = refl
-no-sound (M.Baseline _ _ _) h = refl
-no-sound (M.Temporary _) h = refl
-no-sound (M.Pause _) h = refl
-no-sound (M.Signon _) h = refl
-no-sound (M.Centerprint _) h = refl
-no-sound M.Killed h = refl
-no-sound M.Secret h = refl
-no-sound (M.StaticSound _ _ _ _) h = refl
-no-sound M.Intermission h = refl
-no-sound (M.Finale _) h = refl
-no-sound (M.Track _ _) h = refl
-no-sound M.Sellscreen h = refl
-no-sound (M.Cutscene _) h = refl
-no-sound (M.Update _) h = refl
+no-sound m h = go (variant 5 m)
+  where
+    go : (x : Variant 5 m) → soundIn m x ≡ none
+    go (inl x) = absurd (h (x .0 .0) (x .1))
+    go (inr q) = refl
 
 -- A sound's bytes, from its fields filled in.
 pub sound-sent : (x : Context) (v : Sound) (f : FilledSound) → number Kind.sound ∷ filledSoundValues f ≡ fillSound (soundValues v)

@@ -1,24 +1,22 @@
 -- A field that code picks, as a value: unsigned, or signed of any width. And which messages are filled in at all.
 -- Assumes nothing.
-use mathlib.Core.Path.{_≡_, refl, ap, sym, _∙_}
+use mathlib.Core.Path.{_≡_, refl, ap, ap₂, sym, _∙_}
 use mathlib.Core.List.{List, [], _∷_}
-use mathlib.Core.Bool.{Bool, true, false, cond}
+use mathlib.Core.Bool.{Bool, true, false, cond, _||_}
 use Prim.Native.Nat.{ℕ, _^_, _<_}
 use lib.IntN.{ℤ}
 use lib.Signed.{mag}
-use denote.Enum.Declared.{tagOf}
-use types.Run.{OneOf, miss}
+use types.Run.{OneOf}
 use mir.Syntax.{Width}
 use mir.Val.{ofZ, toZ, hbits}
 use Rattle.format.specs.Layout.{number, tail}
 use Rattle.dem.specs.Scene.{Scene, baselineAt}
 use Rattle.dem.specs.Message.{fill, fillUpdate, isUpdate}
-use Rattle.dem.proofs.MessageLaws.{fill-update}
+use Rattle.dem.proofs.MessageLaws.{fill-update, fill-plain}
 use Rattle.wire.specs.declared.Text.{Text}
 use Rattle.wire.proofs.SignedLaws.{same-bits}
-use Rattle.dem_types.proofs.Message as Messages
+use Rattle.dem_types.proofs.ByNumber.{placeOf, updatePlace, by-number, not-among}
 use Rattle.dem_types.specs.declared.Message.{Message}
-use Rattle.dem_types.specs.declared.Message.the-variants as M
 use Rattle.dem_types.specs.declared.Update.{Update}
 use Rattle.dem_types.specs.Values.{valuesBy, updateValues}
 use Rattle.dem_scene.specs.Views.{plainValues}
@@ -61,40 +59,10 @@ module _ (s : Scene) (t : Text → List ℕ) where
 abbrev pub plain : List ℕ
 plain = 0 ∷ 1 ∷ 2 ∷ 3 ∷ 4 ∷ 6 ∷ 7 ∷ 8 ∷ 9 ∷ 10 ∷ 11 ∷ 12 ∷ 13 ∷ 15 ∷ 16 ∷ 17 ∷ 18 ∷ 19 ∷ 20 ∷ 21 ∷ 22 ∷ 23 ∷ 24 ∷ 25 ∷ 26 ∷ 27 ∷ 28 ∷ 29 ∷ 30 ∷ 31 ∷ 32 ∷ []
 
-pub fill-keeps : (s : Scene) (t : Text → List ℕ) (m : Message) → OneOf plain (tagOf Messages.the-type m)
-    → plainValues (valuesBy t m) ≡ fill s (valuesBy t m)
-unfolding fill
-fill-keeps s t M.Nop h = refl
-fill-keeps s t M.Disconnect h = refl
-fill-keeps s t (M.Stat _ _) h = refl
-fill-keeps s t (M.Version _) h = refl
-fill-keeps s t (M.View _) h = refl
-fill-keeps s t (M.Sound _) h = absurd (miss plain 5 tt h)
-fill-keeps s t (M.Time _) h = refl
-fill-keeps s t (M.Print _) h = refl
-fill-keeps s t (M.Stufftext _) h = refl
-fill-keeps s t (M.SetAngles _ _ _) h = refl
-fill-keeps s t (M.Serverinfo _) h = refl
-fill-keeps s t (M.Style _ _) h = refl
-fill-keeps s t (M.Name _ _) h = refl
-fill-keeps s t (M.Frags _ _) h = refl
-fill-keeps s t (M.Clientdata _) h = absurd (miss plain 14 tt h)
-fill-keeps s t (M.Stopsound _ _) h = refl
-fill-keeps s t (M.Colours _ _) h = refl
-fill-keeps s t (M.Particle _) h = refl
-fill-keeps s t (M.Damage _ _ _) h = refl
-fill-keeps s t (M.Static _ _) h = refl
-fill-keeps s t (M.Baseline _ _ _) h = refl
-fill-keeps s t (M.Temporary _) h = refl
-fill-keeps s t (M.Pause _) h = refl
-fill-keeps s t (M.Signon _) h = refl
-fill-keeps s t (M.Centerprint _) h = refl
-fill-keeps s t M.Killed h = refl
-fill-keeps s t M.Secret h = refl
-fill-keeps s t (M.StaticSound _ _ _ _) h = refl
-fill-keeps s t M.Intermission h = refl
-fill-keeps s t (M.Finale _) h = refl
-fill-keeps s t (M.Track _ _) h = refl
-fill-keeps s t M.Sellscreen h = refl
-fill-keeps s t (M.Cutscene _) h = refl
-fill-keeps s t (M.Update _) h = absurd (miss plain 33 tt h)
+pub fill-keeps : (s : Scene) (t : Text → List ℕ) (m : Message) → OneOf plain (placeOf m) → plainValues (valuesBy t m) ≡ fill s (valuesBy t m)
+fill-keeps s t m h =
+    let k = by-number t m (not-among plain m h updatePlace tt) in
+    let sound = k .other 5 (not-among plain m h 5 tt) in
+    let client = k .other 14 (not-among plain m h 14 tt) in
+    ap plainValues (k .is) ∙ ap (λ (b : Bool). cond b [] (number (k .n) ∷ k .us)) (ap₂ _||_ (ap₂ _||_ (k .low) sound) client)
+    ∙ sym (fill-plain s (k .n) (k .us) (k .low) sound client) ∙ ap (fill s) (sym (k .is))

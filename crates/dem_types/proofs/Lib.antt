@@ -1,3 +1,4 @@
 pub mod InPlace
 pub mod Structs
 pub mod Back
+pub mod ByNumber

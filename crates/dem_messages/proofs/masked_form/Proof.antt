@@ -6,7 +6,7 @@ use mathlib.Core.List.{[]}
 use Prim.Native.Nat.{zero-le}
 use Rattle.dem.specs.Scene.{contextOf}
 use Rattle.dem_scene.specs.Views.{sceneOf}
-use Rattle.dem_messages.proofs.Forms.{put-within, client-chosen, update-chosen, sound-chosen, none-chosen, others-unmasked, others-silent}
+use Rattle.dem_messages.proofs.Forms.{put-within, client-chosen, update-chosen, sound-chosen, none-chosen}
 use borrow.Author.Needs.{needs}
 use Rattle.dem_messages.proofs.masked_form.Statement.{statement}
 use Rattle.dem_messages.proofs.masked_form.Tie as tie
@@ -91,8 +91,7 @@ returns-3 c =
 returns-4 : tie.Need-returns-4
 returns-4 c =
     let a = c .before .before .args in
-    let k = c .match .keys4 in
-    (λ f n. none-chosen (sceneOf (a .scene)) f (a .message) (a .form .now) (a .form .now) 0 (others-unmasked (a .message) k) (others-silent (a .message) k) refl, zero-le)
+    (λ f n. none-chosen (sceneOf (a .scene)) f (a .message) (a .form .now) (a .form .now) 0 (c .match .keys4) refl, zero-le)
 
 pub masked-form-spec : {M : Type 1} → statement M
 masked-form-spec =

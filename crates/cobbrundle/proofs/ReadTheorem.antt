@@ -2,7 +2,7 @@
 -- out its reading, and come to its end exactly if it is well formed; the messages tile their blocks and the blocks the recording; each message
 -- does to the scene what document 01 says, and written back by `write_message` is its bytes. Only the entries' promises are cited.
 -- Assumes nothing.
-use mathlib.Core.Path.{_≡_, refl, sym, ap, ap₂, _∙_, subst, subst₂}
+use mathlib.Core.Path.{_≡_, refl, sym, ap, ap₂, _∙_, subst}
 use mathlib.Core.Logic.{_↔_}
 use mathlib.Core.List.{List, [], _∷_, _++_, map}
 use mathlib.Core.Bool.{true}
@@ -34,7 +34,7 @@ use Rattle.dem.proofs.BlockLaws.{message-lawful, block-lawful}
 use Rattle.dem.proofs.RangeLaws.{message-range, fresh-range, block-range}
 use Rattle.dem.proofs.RecordingLaws.{accepted-exactly}
 use Rattle.dem.proofs.SceneLaws.{Shaped, fresh-shaped, apply-shaped, block-shaped, AfterMessage, message-does}
-use Rattle.format.proofs.CallLaws.{FoundItem, taken, end-told, refusal-told, found-told, all-end, all-refused, all-found}
+use Rattle.format.proofs.CallLaws.{FoundItem, end-told, refusal-told, found-told, all-end, all-refused, all-found}
 use Rattle.dem.proofs.CallLaws.{outline-end, outline-refused, outline-found, block-body, track-told, track-refusal-told, recording-blocks}
 use Rattle.dem.proofs.CallLaws.{reading-found, reading-refused, reading-no-track}
 use Rattle.dem_scene.specs.declared.Scene.{Scene}
@@ -52,7 +52,7 @@ use Rattle.dem_recordings.specs.declared.BlockAnswer.the-variants as B
 use Rattle.dem_recordings.specs.declared.TrackAnswer.{TrackAnswer}
 use Rattle.dem_recordings.specs.declared.TrackAnswer.the-variants as T
 use Rattle.dem_messages.specs.declared.WriteReply.{WriteReply}
-use Rattle.dem_messages.proofs.Messages.{FoundAt, found-reply-at}
+use Rattle.dem_messages.proofs.Messages.{found-reply-at}
 use Rattle.dem_messages.proofs.Theorems.{written-back}
 
 -- ---- the statement
@@ -127,14 +127,8 @@ module _ (block : List ℕ) (bytes : Bytes block) (c : MessageCall)
   abbrev answered : MessageReply
   answered = record { answer = M.Found (c .message) (c .filled) (c .next); scene = c .after }
 
-  it : FoundAt t block (c .place) u item
-  it = found-reply-at t block (c .place) answered (c .message) (c .filled) (c .next) read refl
-
   found-item : FoundItem messages GoodMessage t block (c .place) u item
-  found-item =
-      subst₂ (FoundItem messages GoodMessage t block (c .place)) (sym (it .after))
-      (λ j. record { sent = item .sent; filled = sym (it .filled) j; next = sym (it .next) j })
-      (taken messages t block (c .place) t GoodMessage message-lawful bytes (item .sent) (it .rest) (it .range) (it .inside) (it .read))
+  found-item = found-reply-at t block (c .place) bytes answered (c .message) (c .filled) (c .next) read refl
 
   -- A call that finds a message moves on, and not past the end: such calls come to an end.
   pub message-moves : (c .place < c .next) × (c .next ≤ length block)
@@ -148,7 +142,9 @@ module _ (block : List ℕ) (bytes : Bytes block) (c : MessageCall)
         bytes = found-item .bytes;
         filled = found-item .filled;
         scene = found-item .after;
-        does = subst (AfterMessage t (item .sent)) (sym (it .after)) (message-does t (item .sent) (found-item .good) (it .range) h);
+        does =
+            subst (AfterMessage t (item .sent)) (sym (found-item .after ∙ ap (apply t) (found-item .filled)))
+            (message-does t (item .sent) (found-item .good) (found-item .range) h);
         back = written-back (c .scene) block (c .place) bytes answered (c .message) (c .filled) (c .next) read refl;
       }
 

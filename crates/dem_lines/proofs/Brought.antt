@@ -13,7 +13,10 @@ use Rattle.format.specs.Layout.{Value, tail}
 use Rattle.dem.specs.Scene.{PlayerLine, Scene, contextOf}
 use Rattle.dem.specs.Message.{Message as Values, apply, fill}
 use Rattle.format.specs.Answer.{Answer, refusal, Item, Reply, reply}
+use Rattle.dem.specs.Recording.{messages}
+use Rattle.dem.specs.WellFormed.{GoodMessage}
 use Rattle.dem.specs.Answer.{messageAt}
+use Rattle.format.proofs.CallLaws.{FoundItem}
 use Rattle.dem.proofs.MessageLaws.{fill-update}
 use Rattle.dem.proofs.SceneLaws.{players, filled-frame}
 use Rattle.wire.specs.Cursors.{placed}
@@ -31,7 +34,7 @@ use Rattle.dem_messages.specs.Replies.{answerOf, replyOf}
 use Rattle.dem_messages.specs.declared.MessageAnswer.{MessageAnswer}
 use Rattle.dem_messages.specs.declared.MessageAnswer.the-variants.{Found, End, Refused}
 use Rattle.dem_messages.specs.declared.MessageReply.{MessageReply}
-use Rattle.dem_messages.proofs.Messages.{FoundAt, found-good, found-reply-at}
+use Rattle.dem_messages.proofs.Messages.{found-reply-at}
 use Rattle.dem_messages.proofs.Writing.{allowed-numbered}
 use Rattle.dem_lines.specs.declared.LineChange.{LineChange}
 use Rattle.dem_lines.specs.Lent.{Lent, lent, changeLent, withLines, messageLent}
@@ -74,11 +77,11 @@ module _ (s : Scene) (bytes : List ℕ) (in-bytes : Bytes bytes) (at : ℕ) (r :
     abbrev item : Item Values Values
     item = record { sent = valuesOf bytes m; filled = filledBy (valuesTo bytes next) f; next = next }
 
-    it : FoundAt s bytes at (sceneOf (r .scene)) item
-    it = found-reply-at s bytes at r m f next read was
+    it : FoundItem messages GoodMessage s bytes at (sceneOf (r .scene)) item
+    it = found-reply-at s bytes at in-bytes r m f next read was
 
     numbered : Numbered m
-    numbered = allowed-numbered (contextOf s) (placed bytes) m (found-good s bytes at (sceneOf (r .scene)) item it in-bytes .allowed)
+    numbered = allowed-numbered (contextOf s) (placed bytes) m (it .good .allowed)
 
   -- Its number tells an update.
   numbered-in : (a : MessageAnswer) → r .answer ≡ a → NumberedIn a

@@ -20,6 +20,8 @@ use Rattle.dem.specs.Message.{numberRule, kindLayout, layout, layoutIn, fillUpd
 use Rattle.dem.specs.Message.{normal as normalMessage}
 use Rattle.format.specs.Codec.{normalBytes}
 use Rattle.dem.specs.Recording.{writeMessage, messages}
+use Rattle.dem.specs.WellFormed.{GoodMessage}
+use Rattle.format.proofs.CallLaws.{FoundItem}
 use Rattle.format.specs.Answer.{result, refusal, Reply, reply, Item, written, intoRoom, Normalised, normalOf, normalAt}
 use Rattle.dem.specs.Answer.{messageAt}
 use Rattle.format.proofs.AnswerLaws.{room-enough, room-short}
@@ -50,7 +52,7 @@ use Rattle.dem_messages.specs.Replies.{answerOf, replyOf}
 use Rattle.dem_messages.specs.declared.MessageAnswer.{MessageAnswer}
 use Rattle.dem_messages.specs.declared.MessageAnswer.the-variants.{Found}
 use Rattle.dem_messages.specs.declared.MessageReply.{MessageReply}
-use Rattle.dem_messages.proofs.Messages.{FoundAt, found-reply-at, found-good, found-next, found-front}
+use Rattle.dem_messages.proofs.Messages.{found-reply-at}
 use Rattle.dem_messages.proofs.Writing.{allowed-numbered}
 
 -- A message has a byte or more.
@@ -155,16 +157,14 @@ module _ (scene : Held) (s : List ℕ) (at : ℕ) (room : List ℕ) (r : Message
     abbrev item : Item (List Value) (List Value)
     item = record { sent = valuesOf s m; filled = filledBy (valuesTo s next) f; next = next }
 
-    it : FoundAt (sceneOf scene) s at (sceneOf (r .scene)) item
-    it = found-reply-at (sceneOf scene) s at r m f next read was
+    it : FoundItem messages GoodMessage (sceneOf scene) s at (sceneOf (r .scene)) item
+    it = found-reply-at (sceneOf scene) s at bytes r m f next read was
 
     pub place-after : (at ≤ next) × (at + (next - at) ≤ length s)
-    place-after =
-        let n = found-next (sceneOf scene) s at (sceneOf (r .scene)) item it bytes in
-        (omega (arith, n .1), omega (arith, n .1, n .2))
+    place-after = (omega (arith, it .on), omega (arith, it .on, it .within))
 
     numbered : Numbered m
-    numbered = allowed-numbered (contextOf (sceneOf scene)) (placed s) m (found-good (sceneOf scene) s at (sceneOf (r .scene)) item it bytes .allowed)
+    numbered = allowed-numbered (contextOf (sceneOf scene)) (placed s) m (it .good .allowed)
 
     -- With the bytes of its normal form.
     formed : (form : List ℕ) (n : ℕ) → normalBytes messages normalMessage (sceneOf scene) (valuesOf s m) ≡ form → length form ≡ n
@@ -182,7 +182,7 @@ module _ (scene : Held) (s : List ℕ) (at : ℕ) (room : List ℕ) (r : Message
       as-read z =
           let b = writeMessage (sceneOf scene) (valuesOf s m) in
           formed (take (next - at) (drop at s)) (next - at)
-          (p (placed s) numbered ∙ ap (λ (x : Bool). cond x b (take size form)) (eq-eqb size 0 z) ∙ sym (found-front (sceneOf scene) s at (sceneOf (r .scene)) item it bytes))
+          (p (placed s) numbered ∙ ap (λ (x : Bool). cond x b (take size form)) (eq-eqb size 0 z) ∙ sym (it .bytes))
           (part-length (sceneOf scene) (sceneOf scene) s room at (next - at) next (place-after .1))
 
       pub anew : size ≢ 0 → size ≤ length form

@@ -5,16 +5,20 @@ use mathlib.Core.Path.{_≡_, refl, sym, ap, _∙_}
 use mathlib.Core.Logic.{_≢_}
 use mathlib.Core.List.{List, []}
 use mathlib.Core.Bool.{true}
-use Prim.Native.Nat.{ℕ, _≤_}
-use lib.ListN.{length, drop}
+use Prim.Native.Nat.{ℕ}
+use lib.ListN.{drop}
 use denote.Enum.Laws.{owed}
 use Rattle.format.specs.Bytes.{Bytes, found}
 use Rattle.format.specs.Layout.{allows}
 use Rattle.dem.specs.Scene.{Scene as Described, contextOf}
 use Rattle.dem.specs.Message.{Message as Values, layoutIn, fill}
-use Rattle.format.specs.Answer.{Answer, result, atEnd, refusal, Item}
+use Rattle.dem.specs.Recording.{messages}
+use Rattle.dem.specs.WellFormed.{GoodMessage}
+use Rattle.format.specs.Answer.{Answer, result, atEnd, refusal, reply, Item}
 use Rattle.dem.specs.Answer.{messageAt}
 use Rattle.format.proofs.LayoutLaws.{allows→}
+use Rattle.format.proofs.CallLaws.{FoundItem, found-told}
+use Rattle.dem.proofs.BlockLaws.{message-lawful}
 use Rattle.wire.specs.Cursors.{placed}
 use Rattle.wire.proofs.FieldLaws.{Held}
 use Rattle.dem_types.specs.declared.Message.{Message}
@@ -35,7 +39,6 @@ use Rattle.dem_messages.specs.declared.MessageAnswer.{MessageAnswer}
 use Rattle.dem_messages.specs.declared.MessageAnswer.the-variants.{Found, End, Refused}
 use Rattle.dem_messages.proofs.MessageAnswer as AnswerType
 use Rattle.dem_messages.proofs.MessageAnswer.Laws as AnswerLaws
-use Rattle.dem_messages.proofs.Messages.{FoundAt, found-at, found-good, found-next}
 use Rattle.dem_messages.proofs.Writing.{allowed-numbered}
 
 abbrev answerFrom : Answer (Item Values Values) → MessageAnswer
@@ -48,21 +51,18 @@ module _ (t : Described) (s : List ℕ) (at : ℕ) (bytes : Bytes s) where
     abbrev item : Item Values Values
     item = record { sent = valuesTo s next m; filled = filledBy (valuesTo s next) f; next = next }
 
-    it : FoundAt t s at (messageAt t s at .scene) item
-    it = found-at t s at (messageAt t s at .scene) item (λ i. record { answer = e i; scene = messageAt t s at .scene })
-
-    within : next ≤ length s
-    within = found-next t s at (messageAt t s at .scene) item it bytes .2
+    it : FoundItem messages GoodMessage t s at (messageAt t s at .scene) item
+    it = found-told messages t s at (messageAt t s at .scene) GoodMessage message-lawful bytes item (ap (reply (messageAt t s at .scene)) (sym e))
 
     some : valuesTo s next m ≢ []
-    some z = message-some t (drop at s) (it .rest) (it .read ∙ ap (λ (vs : Values). found vs (it .rest)) z)
+    some z = message-some t (drop at s) (drop next s) (it .read ∙ ap (λ (vs : Values). found vs (drop next s)) z)
 
     -- A message that has the values which were read.
-    read : (n : Message) → Held MessageType.the-row n → valuesTo s next n ≡ valuesTo s next m → Read (contextOf t) s next within n
+    read : (n : Message) → Held MessageType.the-row n → valuesTo s next n ≡ valuesTo s next m → Read (contextOf t) s next (it .within) n
     read n h same =
         let place = in-place s next n (λ z. some (sym same ∙ z)) in
         let allowed : allows (layoutIn t) (valuesOf s n) ≡ true =
-        ap (allows (layoutIn t)) (sym (placed-values s next n place) ∙ same) ∙ found-good t s at (messageAt t s at .scene) item it bytes .allowed in
+        ap (allows (layoutIn t)) (sym (placed-values s next n place) ∙ same) ∙ it .good .allowed in
         record {
           held = h;
           at = place;
@@ -71,7 +71,7 @@ module _ (t : Described) (s : List ℕ) (at : ℕ) (bytes : Bytes s) where
         }
 
     plain : (g : Filled) → Held FilledType.the-row g → filledBy (valuesTo s next) g ≡ fill t (valuesTo s next m)
-        → ReadPlain (contextOf t) s next within g
+        → ReadPlain (contextOf t) s next (it .within) g
     plain (F.Plain n) h q =
         let fields = owed FilledType.the-type FilledLaws.the-laws (F.Plain n) (h .0) (h .1) in
         read n (_, fields .0) (plain-sent (valuesTo s next n) (valuesTo s next m) t some q)
@@ -83,8 +83,8 @@ module _ (t : Described) (s : List ℕ) (at : ℕ) (bytes : Bytes s) where
     found-back h =
         let fields = owed AnswerType.the-type AnswerLaws.the-laws (Found m f next) (h .0) (h .1) in
         let r = read m (_, fields .0) refl in
-        let sent = ap (messageFrom next) (placed-values s next m (r .at)) ∙ message-back (contextOf t) s next within m r in
-        let filled = filled-back (contextOf t) s next within f (_, fields .1 .0) (plain f (_, fields .1 .0) (it .filled))
+        let sent = ap (messageFrom next) (placed-values s next m (r .at)) ∙ message-back (contextOf t) s next (it .within) m r in
+        let filled = filled-back (contextOf t) s next (it .within) f (_, fields .1 .0) (plain f (_, fields .1 .0) (it .filled))
         (λ z. fill-some t (valuesTo s next m) some (sym (it .filled) ∙ z)) in
         λ i. Found (sent i) (filled i) next
 

@@ -12,9 +12,7 @@ use Rattle.dem.specs.WellFormed.{GoodMessage}
 use Rattle.dem.specs.Recording.{writeMessage, messages}
 use Rattle.format.specs.Answer.{Answer, result, Item, Written}
 use Rattle.dem.specs.Answer.{messageAt, writeSent}
-use Rattle.format.proofs.ByteLaws.{drop-bytes}
-use Rattle.format.proofs.CodecLaws.{Taken}
-use Rattle.dem.proofs.BlockLaws.{message-lawful}
+use Rattle.format.proofs.CallLaws.{FoundItem}
 use Rattle.dem_types.specs.declared.Message.{Message}
 use Rattle.dem_types.specs.Places.{valuesTo}
 use Rattle.dem_types.specs.Values.{valuesOf}
@@ -25,7 +23,7 @@ use Rattle.dem_messages.specs.Replies.{replyOf, countOf, writtenOf}
 use Rattle.dem_messages.specs.declared.MessageAnswer.the-variants.{Found}
 use Rattle.dem_messages.specs.declared.MessageReply.{MessageReply}
 use Rattle.dem_messages.specs.declared.WriteReply.{WriteReply}
-use Rattle.dem_messages.proofs.Messages.{FoundAt, found-reply-at, found-front, found-length}
+use Rattle.dem_messages.proofs.Messages.{found-reply-at}
 use Rattle.dem_messages.proofs.Writing.{done, done-reply}
 
 abbrev count-of : Written Described ℕ → Answer ℕ
@@ -46,8 +44,8 @@ module _ (scene : Scene) (s : List ℕ) (at : ℕ) (bytes : Bytes s) (r : Messag
   item = record { sent = valuesOf s m; filled = filledBy (valuesTo s next) f; next = next }
 
   -- The reader found it.
-  it : FoundAt t s at (sceneOf (r .scene)) item
-  it = found-reply-at t s at r m f next read was
+  it : FoundItem messages GoodMessage t s at (sceneOf (r .scene)) item
+  it = found-reply-at t s at bytes r m f next read was
 
   -- The same bytes are written, what is behind them in the room stays, and the scene after it is the same.
   pub written-back : (w : WriteReply) (room room′ : List ℕ)
@@ -56,14 +54,10 @@ module _ (scene : Scene) (s : List ℕ) (at : ℕ) (bytes : Bytes s) (r : Messag
       × (sceneOf (w .scene) ≡ sceneOf (r .scene))
   unfolding writeMessage
   written-back w room room′ wrote h =
-      let b = writeMessage t (valuesOf s m) in
-      let k : Taken messages GoodMessage t (drop at s) (valuesOf s m) (it .rest) =
-      message-lawful .sound t (drop at s) (valuesOf s m) (it .rest) (drop-bytes at s bytes) (it .read) in
-      let front : take (next - at) (drop at s) ≡ b = found-front t s at _ item it bytes in
-      let long : next - at ≡ length b = found-length t s at _ item it bytes in
-      let size : next - at ≡ length (take (next - at) (drop at s)) = long ∙ ap length (sym front) in
+      let long : next - at ≡ length (writeMessage t (valuesOf s m)) = omega (arith, it .next) in
+      let size : next - at ≡ length (take (next - at) (drop at s)) = long ∙ ap length (sym (it .bytes)) in
       let x : writtenOf w room′ ≡ done (apply t (fill t (valuesOf s m))) (next - at) (take (next - at) (drop at s) ++ drop (next - at) room) =
       wrote
-      ∙ sym (done-reply t (valuesOf s m) room (it .range) (k .good .going) (k .good .allowed) refl front size
+      ∙ sym (done-reply t (valuesOf s m) room (it .range) (it .good .going) (it .good .allowed) refl (it .bytes) size
       (ap (λ (j : ℕ). take (next - at) (drop at s) ++ drop j room) size) (omega (arith, long))) in
-      (ap count-of x, ap room-of x, ap written-scene x ∙ sym (it .after))
+      (ap count-of x, ap room-of x, ap written-scene x ∙ sym (it .after ∙ ap (apply t) (it .filled)))

@@ -30,7 +30,7 @@ use Rattle.dem_framing.specs.Heads.{headIn, headOf}
 use Rattle.dem_framing.specs.declared.HeadAt.{HeadAt}
 use Rattle.dem_framing.proofs.HeadLaws.{block-head}
 use Rattle.format.proofs.ListLaws.{sets-append}
-use Rattle.dem_blocks.specs.Runs.{Told, refusedIn, quickUntil, countedOf, toldOf, messageForm, blockForm, Wrote, put, wroteOf, runOf}
+use Rattle.dem_blocks.specs.Runs.{Told, refusedIn, loadedUntil, countedOf, toldOf, messageForm, blockForm, Wrote, put, wroteOf, runOf, blockBytes}
 use Rattle.dem.proofs.RefusalLaws.{listed}
 
 take-drop : (m n : ℕ) (l : List ℕ) → take m (drop n l) ≡ drop n (take (n + m) l)
@@ -40,13 +40,14 @@ take-drop m (suc n) (x ∷ l) =
     let e : suc n + m ≡ suc (n + m) = omega arith in
     take-drop m n l ∙ rw e
 
--- A place before the one to which updates are loaded whole is inside the block, and 18 bytes of the input follow.
-pub before-stop : (len end stop at : ℕ) → stop ≡ quickUntil len end → at < stop → (at < end) × (at + 18 ≤ len)
-before-stop len end stop at e l = go (leb end (len - 17)) refl e
+-- A place before the one to which updates are loaded whole, where they are: it is inside the block, and 18 bytes of the input follow.
+pub before-stop : (on : Bool) (len end stop at : ℕ) → stop ≡ cond on (loadedUntil len end) 0 → at < stop → (on ≡ true) × (at < end) × (at + 18 ≤ len)
+before-stop true len end stop at e l = let w = go (leb end (len - 17)) refl e in (refl, w .0, w .1)
   where
     go : (b : Bool) → leb end (len - 17) ≡ b → stop ≡ cond b end (len - 17) → (at < end) × (at + 18 ≤ len)
     go true q e = omega (arith, leb-true end (len - 17) q)
     go false q e = omega (arith, leb-false end (len - 17) q)
+before-stop false len end stop at e l = let z : ⊥ = omega (arith, e, l) in absurd z
 
 -- ---- messages
 
@@ -86,10 +87,6 @@ module _ (s : List ℕ) (h : Bytes s) (t : Scene) (at : ℕ) (t′ : Scene) (to 
 
   pub moved-range : inRange t ≡ true → inRange t′ ≡ true
   moved-range r = subst (λ (x : Scene). inRange x ≡ true) (m .scene) (message-range t (m .values) (taken .good) r)
-
--- The bytes of a block with these angles and this body, where it is to be written.
-abbrev pub blockBytes : Bool → List Value → List ℕ → List ℕ
-blockBytes on angles body = cond on (leWrite 4 (length body) ++ (print angleLayout angles ++ body)) []
 
 pub block-length : (on : Bool) (a b c : ℕ) (body : List ℕ) → length (blockBytes on (number a ∷ number b ∷ number c ∷ []) body) ≡ cond on (16 + length body) 0
 unfolding print

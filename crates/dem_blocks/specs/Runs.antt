@@ -2,7 +2,7 @@
 use mathlib.Core.List.{List, [], _∷_, _++_}
 use mathlib.Core.Bool.{Bool, cond}
 use Prim.Native.Nat.{ℕ, _+_, _-_}
-use lib.ListN.{length}
+use lib.ListN.{length, take, drop}
 use lib.Seq.{sets}
 use lib.Dec.{leb, eqb}
 use Rattle.format.specs.Bytes.{leWrite}
@@ -68,6 +68,14 @@ stored out base room = leb room (length out - base)
 abbrev pub put : Bool → List ℕ → ℕ → List ℕ → List ℕ
 put stores out at bytes = cond stores (sets out at bytes) out
 
+-- Of a block so far: what was put, and then input that is kept as it was read, which is not copied yet.
+abbrev pub soFar : Bool → List ℕ → ℕ → List ℕ → ℕ → ℕ → List ℕ
+soFar on filled size s kept at = take size filled ++ cond on (take (at - kept) (drop kept s)) []
+
+-- The bytes of a block with these angles and this body, where it is to be written.
+abbrev pub blockBytes : Bool → List Value → List ℕ → List ℕ
+blockBytes on angles body = cond on (leWrite 4 (length body) ++ (print angleLayout angles ++ body)) []
+
 -- Where room is short, it is so behind these blocks: the scene given, and no messages.
 abbrev pub toldWith : Scene → ℕ → ℕ → ℕ → WrittenRun Scene Block → Told
 toldWith given input blocks messages w =
@@ -93,5 +101,5 @@ wrote r out = record { told = answered (r .read); written = r .written; room = o
 -- ---- updates that are loaded whole
 
 -- From each place of a block before this one, 18 bytes of an input of so many follow: the block's end, or 17 before the input's.
-abbrev pub quickUntil : ℕ → ℕ → ℕ
-quickUntil len end = cond (leb end (len - 17)) end (len - 17)
+abbrev pub loadedUntil : ℕ → ℕ → ℕ
+loadedUntil len end = cond (leb end (len - 17)) end (len - 17)

@@ -23,8 +23,9 @@ use Rattle.dem.proofs.UpdateLaws.{update-mask}
 use Rattle.dem_scene.specs.Views.{baselineNumbers, recordValues}
 use Rattle.dem_scene.specs.declared.Baseline.{Baseline}
 use Rattle.dem_direct.specs.Spread.{fieldOr, behind, spread, passed, needlessIn, filledAt}
-use Rattle.dem_direct.specs.Heads.{highAt, maskAt, entityWidth, headAt, needlessHead}
+use Rattle.dem_direct.specs.Heads.{highAt, maskAt, entityWidth, headAt, needlessHead, HeadLoaded, FieldsLoaded}
 use Rattle.dem_direct.specs.declared.UpdateHead.{UpdateHead}
+use Rattle.dem_direct.specs.declared.LoadedHead.{LoadedHead}
 use Rattle.dem_direct.specs.declared.RecordAt.{RecordAt}
 use Rattle.dem_direct.proofs.Fields.{sent}
 use Rattle.dem_direct.proofs.NormalLaws.{update-kept}
@@ -91,17 +92,17 @@ high-good high n h =
     let e : bit high 7 ≡ false = bit-div high 7 ∙ ap isSet z in
     rw e
 
--- What the block holds at a place behind the number n: an update of entity i that ends where the fields did, and fills in to their record;
--- and where nothing was sent needlessly, it is its own normal form.
-pub record QuickUpdate (d : List ℕ) (end at n : ℕ) (b : Baseline) (h : UpdateHead) (i : ℕ) (f : RecordAt) : Type 0 where
+-- What the block holds at the place of an update's number: an update that ends where the fields did, and fills in to their record; and
+-- where nothing was sent needlessly, it is its own normal form.
+pub record QuickUpdate (d : List ℕ) (end at : ℕ) (b : Baseline) (h : LoadedHead) (f : RecordAt) : Type 0 where
   pub high : ℕ
-  pub masked : h .mask ≡ high * 256 + n
   pub sent : List Value
-  pub parsed : parse (updateLayout n) (drop at (take end d)) ≡ found (number high ∷ number i ∷ sent) (drop (f .next) (take end d))
-  pub filled : fillUpdate (baselineNumbers b) n (number high ∷ number i ∷ sent)
-      ≡ number Kind.update ∷ number i ∷ recordValues (f .record)
-  pub kept : f .needless ≡ false → h .needless ≡ false
-      → sendUpdate (baselineNumbers b) (number i ∷ recordValues (f .record)) ≡ number n ∷ number high ∷ number i ∷ sent
+  pub parsed : parse (updateLayout (getD d at 0)) (drop (at + 1) (take end d))
+      ≡ found (number high ∷ number (h .index) ∷ sent) (drop (f .next) (take end d))
+  pub filled : fillUpdate (baselineNumbers b) (getD d at 0) (number high ∷ number (h .index) ∷ sent)
+      ≡ number Kind.update ∷ number (h .index) ∷ recordValues (f .record)
+  pub kept : needlessIn d (updateSlots (baselineNumbers b)) (bit (h .head .mask)) (h .head .next) false ≡ false → h .head .needless ≡ false
+      → sendUpdate (baselineNumbers b) (number (h .index) ∷ recordValues (f .record)) ≡ number (getD d at 0) ∷ number high ∷ number (h .index) ∷ sent
 
 module _ (d : List ℕ) (end at n : ℕ) (b : Baseline) (inside : end ≤ length d) (small : n < 256) where
   slots : List Slot
@@ -176,35 +177,38 @@ module _ (d : List ℕ) (end at n : ℕ) (b : Baseline) (inside : end ≤ length
       update-kept d (baselineNumbers b) n high entity next small update low needed lacking
       (narrow (omega (arith, passed-up slots (bit mask) next)) bytes) every
 
-  pub quick-update : (h : UpdateHead) (i : ℕ) (f : RecordAt) → h ≡ headAt d at n → i ≡ h .entity .0
-      → recordValues (f .record) ≡ filledAt d (baselineNumbers b) (h .mask) (h .next)
-      → f .next ≡ passed (updateSlots (baselineNumbers b)) (bit (h .mask)) (h .next)
-      → h .mask < 32768 → i < entityCount → f .next ≤ end
-      → f .needless ≡ needlessIn d (updateSlots (baselineNumbers b)) (bit (h .mask)) (h .next) false → 128 ≤ n
-      → ((i : ℕ) → getD d i 0 < 256)
-      → QuickUpdate d end at n b h i f
-  unfolding headAt slots mask entity next place high
-  quick-update h i f eh ei ev en low known l eo update bytes =
-      let em : h .mask ≡ mask = ap (λ (h : UpdateHead). h .mask) eh in
-      let ee : i ≡ entity = ei ∙ ap (λ (h : UpdateHead). h .entity .0) eh in
-      let ex : h .next ≡ next = ap (λ (h : UpdateHead). h .next) eh in
-      let ef : f .next ≡ passed slots (bit mask) next = en ∙ ap₂ (λ (m x : ℕ). passed slots (bit m) x) em ex in
-      record {
-        high = high;
-        masked = em;
-        sent = sent d slots (bit mask) next;
-        parsed =
-            head-parsed (rw em at low) (rw ee at known) (rw ef at l)
-            ∙ ap₂ (λ (e x : ℕ). found (number high ∷ number e ∷ sent d slots (bit mask) next) (drop x (take end d))) (sym ee) (sym ef);
-        filled =
-            head-filled i
-            ∙ ap (λ (vs : List Value). number Kind.update ∷ number i ∷ vs)
-            (ap₂ (λ (m x : ℕ). filledAt d (baselineNumbers b) m x) (sym em) (sym ex) ∙ sym ev);
-        kept =
-            λ none needed.
-            ap₂ (λ (e : ℕ) (vs : List Value). sendUpdate (baselineNumbers b) (number e ∷ vs)) ee
-            (ev ∙ ap₂ (λ (m x : ℕ). filledAt d (baselineNumbers b) m x) em ex)
-            ∙ head-kept update (rw em at low) (rw ef at l) bytes (sym (ap (λ (h : UpdateHead). h .needless) eh) ∙ needed)
-            (ap₂ (λ (m x : ℕ). needlessIn d slots (bit m) x false) (sym em) (sym ex) ∙ sym eo ∙ none)
-            ∙ ap (λ (e : ℕ). number n ∷ number high ∷ number e ∷ sent d slots (bit mask) next) (sym ee);
-      }
+pub quick-update : (d : List ℕ) (end at : ℕ) (b : Baseline) → end ≤ length d → ((i : ℕ) → getD d i 0 < 256) → (h : LoadedHead) (f : RecordAt)
+    → HeadLoaded d at h → FieldsLoaded d (h .head) b end f → QuickUpdate d end at b h f
+unfolding headAt slots mask entity next place high
+quick-update d end at b inside bytes h f l r =
+    let n = getD d at 0 in
+    let small : n < 256 = bytes at in
+    let v = high d end (at + 1) n b inside small in
+    let m = mask d end (at + 1) n b inside small in
+    let e = entity d end (at + 1) n b inside small in
+    let x = next d end (at + 1) n b inside small in
+    let ss = updateSlots (baselineNumbers b) in
+    let em : h .head .mask ≡ m = ap (λ (h : UpdateHead). h .mask) (l .read) in
+    let ee : h .index ≡ e = l .index ∙ ap (λ (h : UpdateHead). h .entity .0) (l .read) in
+    let ex : h .head .next ≡ x = ap (λ (h : UpdateHead). h .next) (l .read) in
+    let ef : f .next ≡ passed ss (bit m) x = r .next ∙ ap₂ (λ (m x : ℕ). passed ss (bit m) x) em ex in
+    let low : m < 32768 = rw em at (l .low) in
+    let ends : passed ss (bit m) x ≤ end = rw ef at (r .ends) in
+    record {
+      high = v;
+      sent = sent d ss (bit m) x;
+      parsed =
+          head-parsed d end (at + 1) n b inside small low (rw ee at (l .known)) ends
+          ∙ ap₂ (λ (e x′ : ℕ). found (number v ∷ number e ∷ sent d ss (bit m) x) (drop x′ (take end d))) (sym ee) (sym ef);
+      filled =
+          head-filled d end (at + 1) n b inside small (h .index)
+          ∙ ap (λ (vs : List Value). number Kind.update ∷ number (h .index) ∷ vs)
+          (ap₂ (λ (m x : ℕ). filledAt d (baselineNumbers b) m x) (sym em) (sym ex) ∙ sym (r .fields));
+      kept =
+          λ none needed.
+          ap₂ (λ (e : ℕ) (vs : List Value). sendUpdate (baselineNumbers b) (number e ∷ vs)) ee
+          (r .fields ∙ ap₂ (λ (m x : ℕ). filledAt d (baselineNumbers b) m x) em ex)
+          ∙ head-kept d end (at + 1) n b inside small (l .large) low ends bytes (sym (ap (λ (h : UpdateHead). h .needless) (l .read)) ∙ needed)
+          (ap₂ (λ (m x : ℕ). needlessIn d ss (bit m) x false) (sym em) (sym ex) ∙ none)
+          ∙ ap (λ (e : ℕ). number n ∷ number v ∷ number e ∷ sent d ss (bit m) x) (sym ee);
+    }

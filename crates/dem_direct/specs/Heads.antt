@@ -1,13 +1,19 @@
--- An update's mask and entity.
+-- An update's mask and entity, and its fields where it is loaded.
+use mathlib.Core.Path.{_≡_}
 use mathlib.Core.List.{List}
 use mathlib.Core.Bool.{Bool, _&&_, _||_}
-use Prim.Native.Nat.{ℕ, suc, _+_, _*_}
+use Prim.Native.Nat.{ℕ, suc, _+_, _*_, _<_, _≤_}
 use lib.Dec.{ltb}
-use lib.ListN.{take, drop}
+use lib.ListN.{take, drop, getD}
 use Rattle.format.specs.Bytes.{leRead, bit, bitOf}
-use Rattle.dem.specs.Message.{highBit, wideBit}
-use Rattle.dem_direct.specs.Spread.{fieldOr, behind}
+use Rattle.dem.specs.Limits.{entityCount}
+use Rattle.dem.specs.Message.{highBit, wideBit, updateSlots}
+use Rattle.dem_scene.specs.Views.{baselineNumbers, recordValues}
+use Rattle.dem_scene.specs.declared.Baseline.{Baseline}
+use Rattle.dem_direct.specs.Spread.{fieldOr, behind, passed, filledAt}
 use Rattle.dem_direct.specs.declared.UpdateHead.{UpdateHead}
+use Rattle.dem_direct.specs.declared.LoadedHead.{LoadedHead}
+use Rattle.dem_direct.specs.declared.RecordAt.{RecordAt}
 
 -- The byte of high mask bits, 0 where it is not sent.
 abbrev pub highAt : List ℕ → ℕ → ℕ → ℕ
@@ -31,3 +37,18 @@ headAt d at low =
     let q = behind at (bit low highBit) 1 in
     let entity = leRead (take w (drop q d)) in
     record { mask = maskAt d at low; entity = record { 0 = entity }; next = q + w; needless = needlessHead (maskAt d at low) entity }
+
+-- What is known of the head of an update that is not left, at the place of the update's number.
+pub record HeadLoaded (d : List ℕ) (at : ℕ) (h : LoadedHead) : Type 0 where
+  pub large : 128 ≤ getD d at 0
+  pub read : h .head ≡ headAt d (at + 1) (getD d at 0)
+  pub near : h .head .next ≤ at + 4
+  pub index : h .index ≡ h .head .entity .0
+  pub known : h .index < entityCount
+  pub low : h .head .mask < 32768
+
+-- What is known of its fields, if they are not left: the record filled from a baseline, and the place behind them, no further than `end`.
+pub record FieldsLoaded (d : List ℕ) (h : UpdateHead) (b : Baseline) (end : ℕ) (r : RecordAt) : Type 0 where
+  pub fields : recordValues (r .record) ≡ filledAt d (baselineNumbers b) (h .mask) (h .next)
+  pub next : r .next ≡ passed (updateSlots (baselineNumbers b)) (bit (h .mask)) (h .next)
+  pub ends : r .next ≤ end

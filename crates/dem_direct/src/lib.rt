@@ -8,6 +8,7 @@ ghost use lib.ListN.{length, take, drop};
 ghost use mir.Val.{ofZ};
 ghost use mir.Syntax.{w8, w16, w32};
 ghost use Rattle.dem.specs.Kind;
+ghost use Rattle.dem.specs.Limits.{entityCount};
 ghost use Rattle.format.specs.Bytes.{leRead, bit, bitOf};
 ghost use Rattle.format.specs.Layout.{number};
 ghost use Rattle.format.specs.Masked.{Mask};
@@ -18,9 +19,11 @@ ghost use Rattle.dem_parts.specs.Kinds.{kindAt};
 ghost use Rattle.dem_types.specs.Values.{poseValues, motionValues, armsValues, suppliesValues};
 ghost use Rattle.dem_scene.specs.Views.{baselineNumbers, recordValues, clientValues};
 ghost use Rattle.dem_direct.specs.Spread.{fieldOr, behind, needlessOr, spread, passed, needlessIn, lookSlots, lookOf, poseSlots, filledAt, suppliesSlots, clientFields, clientIn, clientAt};
-ghost use Rattle.dem_direct.specs.Heads.{headAt};
+ghost use Rattle.dem_direct.specs.Heads.{headAt, HeadLoaded, FieldsLoaded};
 use dem::clientdata;
+use dem::kind;
 use dem::limit::DEFAULT_VIEW_HEIGHT;
+use dem::limit::ENTITY_COUNT;
 use dem::update;
 use dem_scene::Baseline;
 use dem_scene::Client;
@@ -400,11 +403,55 @@ pub fn update_head(d: &[u8], at: usize, low: u8) -> UpdateHead
     }
 }
 
-// Also whether a field was sent needlessly.
-pub struct RecordAt {
-    pub record: Record,
-    pub next: usize,
-    pub needless: bool,
+// The head of an update that is loaded, and the index of its entity; or it is left.
+pub struct LoadedHead {
+    pub left: bool,
+    pub index: usize,
+    pub head: UpdateHead,
+}
+
+fn no_head() -> LoadedHead
+    ensures { λ r. ⌜ r .left ≡ true ⌝ }
+{
+    let entity = Entity(0);
+    let head = UpdateHead {
+        mask: 0,
+        entity,
+        next: 0,
+        needless: false,
+    };
+    LoadedHead {
+        left: true,
+        index: 0,
+        head,
+    }
+}
+
+fn is_refused(index: usize, mask: u16) -> bool
+    ensures { λ r. ⌜ (r ≡ false → (index < entityCount) × (mask < 32768)) ⌝ }
+{
+    if ENTITY_COUNT <= index {
+        return true;
+    }
+    update::MASK_BOUND <= mask
+}
+
+// Left are other messages, and updates whose entity or mask is refused.
+pub fn load_head(d: &[u8], at: usize) -> LoadedHead
+    requires { ⌜ at + 4 ≤ length (now d) ⌝ }
+    ensures { λ r. ⌜ (r .left ≡ false → HeadLoaded (now (d .entry)) at r) ⌝ }
+{
+    let k = d[at];
+    if k < kind::UPDATE {
+        return no_head();
+    }
+    let head = update_head(d, at + 1, k);
+    let index = dem_types::index_of(head.entity);
+    LoadedHead {
+        left: is_refused(index, head.mask),
+        index,
+        head,
+    }
 }
 
 // A record of what was read of an update with this mask.
@@ -425,46 +472,58 @@ fn record_of(mask: u16, o: Look, l: LookOr, pose: Pose) -> Record
     record
 }
 
-// What an update with this mask does not send comes from the baseline, effects 0.
-pub fn update_fields(d: &[u8], at: usize, mask: u16, b: Baseline) -> RecordAt
-    requires { ⌜ at + 14 ≤ length (now d) ⌝ }
-    ensures { λ r. ⌜ recordValues (r .record) ≡ filledAt (now (d .entry)) (baselineNumbers b) mask at ⌝ }
-    ensures place { λ r. ⌜ r .next ≡ passed (updateSlots (baselineNumbers b)) (bit mask) at ⌝ }
-    ensures flag { λ r. ⌜ r .needless ≡ needlessIn (now (d .entry)) (updateSlots (baselineNumbers b)) (bit mask) at false ⌝ }
+// A record and the place behind the fields; or it is left.
+pub struct RecordAt {
+    pub left: bool,
+    pub record: Record,
+    pub next: usize,
+}
+
+// What an update with this head does not send comes from the baseline, effects 0. One that ends behind the place `end` is left.
+pub fn update_fields(d: &[u8], h: UpdateHead, b: Baseline, end: usize) -> RecordAt
+    requires { ⌜ h .next + 14 ≤ length (now d) ⌝ }
+    ensures { λ r. ⌜ (r .left ≡ false → FieldsLoaded (now (d .entry)) h b end r) ⌝ }
 {
+    let mask = h.mask;
     let look = b.look;
-    let l = look_chosen(d, at, mask, look);
-    let p = pose_or(d, l.next, mask, b.pose, l.needless);
+    let l = look_chosen(d, h.next, mask, look);
+    let p = pose_or(d, l.next, mask, b.pose, false);
     let next = p.next;
-    let needless = p.needless;
     let pose = p.pose;
     let record = record_of(mask, look, l, pose);
     RecordAt {
+        left: end < next,
         record,
         next,
-        needless,
     }
 }
 
-// The same, but left behind a look that has a needless field, or at the first needless coordinate or angle; record and place are an
-// answer only where nothing was sent needlessly.
-pub fn needed_fields(d: &[u8], at: usize, mask: u16, b: Baseline) -> RecordAt
-    requires { ⌜ at + 14 ≤ length (now d) ⌝ }
-    ensures { λ r. ⌜ r .needless ≡ needlessIn (now (d .entry)) (updateSlots (baselineNumbers b)) (bit mask) at false ⌝ }
-    ensures fields { λ r. ⌜ (r .needless ≡ false → recordValues (r .record) ≡ filledAt (now (d .entry)) (baselineNumbers b) mask at) ⌝ }
-    ensures place { λ r. ⌜ (r .needless ≡ false → r .next ≡ passed (updateSlots (baselineNumbers b)) (bit mask) at) ⌝ }
+fn is_left(needless: bool, end: usize, next: usize) -> bool
+    ensures { λ r. ⌜ (r ≡ false → (needless ≡ false) × (next ≤ end)) ⌝ }
 {
+    if needless {
+        return true;
+    }
+    end < next
+}
+
+// The same, but one with a needless field is left, too: behind its look, or at its first needless coordinate or angle.
+pub fn needed_fields(d: &[u8], h: UpdateHead, b: Baseline, end: usize) -> RecordAt
+    requires { ⌜ h .next + 14 ≤ length (now d) ⌝ }
+    ensures { λ r. ⌜ (r .left ≡ false → FieldsLoaded (now (d .entry)) h b end r) ⌝ }
+    ensures needed { λ r. ⌜ (r .left ≡ false → needlessIn (now (d .entry)) (updateSlots (baselineNumbers b)) (bit (h .mask)) (h .next) false ≡ false) ⌝ }
+{
+    let mask = h.mask;
     let look = b.look;
-    let l = look_or(d, at, mask, look);
+    let l = look_or(d, h.next, mask, look);
     let p = needed_pose(d, l.next, mask, b.pose, l.needless);
     let next = p.next;
-    let needless = p.needless;
     let pose = p.pose;
     let record = record_of(mask, look, l, pose);
     RecordAt {
+        left: is_left(p.needless, end, next),
         record,
         next,
-        needless,
     }
 }
 

@@ -13,7 +13,7 @@ use mir.Val.{Fits}
 use lib.ListN.{length, take, drop, getD, set, replicate, length-take, length-drop}
 use lib.Seq.{length-take-le, getD-take}
 use lib.Dec.{ltb}
-use borrow.Author.Tests.{leb-true, ltb-true, not-true}
+use borrow.Author.Tests.{leb-true, ltb-true, ltb-false, not-true}
 use mathlib.Core.Logic.{_≢_}
 use mathlib.Core.List.{List, [], _∷_, _++_}
 use Rattle.format.specs.Bytes.{Bytes, Result, refused, leWrite, bit}
@@ -38,20 +38,20 @@ use Rattle.dem_scene.specs.Views.{sceneWith, sceneOf, baselineNumbers, recordVa
 use Rattle.dem_scene.specs.declared.Baseline.{Baseline}
 use Rattle.dem_scene.specs.declared.Record.{Record}
 use Rattle.dem_scene.specs.declared.Rest.{Rest}
-use Rattle.dem_direct.specs.Spread.{filledAt, passed, needlessIn}
-use Rattle.dem_direct.specs.Heads.{headAt}
-use Rattle.dem_direct.specs.declared.UpdateHead.{UpdateHead}
+use Rattle.dem_direct.specs.Spread.{needlessIn}
+use Rattle.dem_direct.specs.Heads.{HeadLoaded, FieldsLoaded}
+use Rattle.dem_direct.specs.declared.LoadedHead.{LoadedHead}
 use Rattle.dem_direct.specs.declared.RecordAt.{RecordAt}
 use Rattle.dem_direct.proofs.QuickLaws.{QuickUpdate, quick-update}
 use Rattle.dem_reader.specs.Passed.{isPassed}
 use Rattle.dem_reader.proofs.Passing.{Passed, passed-read}
 use Rattle.dem_normal.specs.Put.{Behind}
-use Rattle.dem_blocks.specs.Runs.{Told, refusedIn, answered, Wrote, stored, put, wroteOf, runOf, wrote}
+use Rattle.dem_blocks.specs.Runs.{Told, refusedIn, answered, Wrote, stored, put, soFar, blockBytes, wroteOf, runOf, wrote}
 use Rattle.dem_blocks.specs.declared.WrittenAt.{WrittenAt}
 use Rattle.dem_blocks.specs.Marks.{marked}
 use Rattle.dem_blocks.proofs.Marks.{Within, within-more, within-bits, marked-set, marked-none, marked-bits, Before, before-later, before-marked, before-timed}
-use Rattle.dem_blocks.proofs.SoFar.{and-false, soFar, far-begins, Grown, grown-kept, grown-behind}
-use Rattle.dem_blocks.proofs.Turns.{Moved, before-stop, head-refused, head-found, moved-less, moved-short, moved-range, blockBytes, block-length, put-block-there, put-length, closed, closed-short, closed-fits, inside, on-refused, on-moved, on-end, run-over, run-refused, run-opened}
+use Rattle.dem_blocks.proofs.SoFar.{and-false, or-false, far-begins, Grown, grown-kept, grown-behind}
+use Rattle.dem_blocks.proofs.Turns.{Moved, before-stop, head-refused, head-found, moved-less, moved-short, moved-range, block-length, put-block-there, put-length, closed, closed-short, closed-fits, inside, on-refused, on-moved, on-end, run-over, run-refused, run-opened}
 use Rattle.dem_blocks.proofs.Arms.{held, noBaseline, quick-moved, kept-form, ended-refused, kind-parsed, parsed-refused, update-parsed, update-known, update-moved, time-moved, ClientRead, client-read, kept-client, client-moved, sound-moved, passed-parsed, passed-moved, other-parsed, baseline-known, baseline-moved, serverinfo-moved, cleared-present, rest-moved}
 use Rattle.dem_blocks.proofs.write_blocks.Statement.{statement}
 use Rattle.dem_blocks.proofs.write_blocks.Tie as tie
@@ -105,25 +105,25 @@ Along told on s end messages₀ scene₀ form₀ at₀ messages′ scene body at
 
 -- The loop over messages.
 abbrev Inv-loop2 : tie.InvT-loop2
-Inv-loop2 d from most given on room out base baselines₀ records₀ marks₀ since₀ rest₀ body₀ stores start blocks messages₀ written refusal h at₀ end s stop size₀ kept₀ baselines records marks since rest body messages′ at size kept =
+Inv-loop2 d from most given on room out base baselines₀ records₀ marks₀ since₀ rest₀ body₀ stores start blocks messages₀ written refusal h at₀ end s writes reads size₀ kept₀ baselines records marks since rest body messages′ at size kept =
     let angles = number (h .angle0) ∷ number (h .angle1) ∷ number (h .angle2) ∷ [] in
     Along (inside (sceneOf given) d on stores room base blocks (most - blocks - 1) start end angles written out) on s end
     messages₀ (held baselines₀ records₀ (marked since₀ marks₀) rest₀) [] at₀ messages′ (held baselines records (marked since marks) rest) body at size kept marks since
 
 abbrev μ-loop2 : tie.MeasureT-loop2
-μ-loop2 d from most given on room out base baselines₀ records₀ marks₀ since₀ rest₀ body₀ stores start blocks messages₀ written refusal h at₀ end s stop size₀ kept₀ baselines records marks since rest body messages at size kept =
+μ-loop2 d from most given on room out base baselines₀ records₀ marks₀ since₀ rest₀ body₀ stores start blocks messages₀ written refusal h at₀ end s writes reads size₀ kept₀ baselines records marks since rest body messages at size kept =
     length s - at
 
 -- The loops over updates inside it, which leave the baselines and the rest as they are and do not go back.
 abbrev Inv-loop3 : tie.InvT-loop3
-Inv-loop3 d from most given on room out base baselines records₀ marks₀ since rest body stores start blocks messages₀ written refusal h at₀ end s stop size kept records marks messages at =
+Inv-loop3 d from most given on room out base baselines records₀ marks₀ since rest body stores start blocks messages₀ written refusal h at₀ end s writes reads size kept records marks messages at =
     let angles = number (h .angle0) ∷ number (h .angle1) ∷ number (h .angle2) ∷ [] in
     Along (inside (sceneOf given) d on stores room base blocks (most - blocks - 1) start end angles written out) on s end
     messages₀ (held baselines records₀ (marked since marks₀) rest) (soFar on body size s kept at₀) at₀ messages (held baselines records (marked since marks) rest) body at size kept marks since
     × (at₀ ≤ at)
 
 abbrev μ-loop3 : tie.MeasureT-loop3
-μ-loop3 d from most given on room out base baselines records₀ marks₀ since rest body stores start blocks messages₀ written refusal h at₀ end s stop size kept records marks messages at =
+μ-loop3 d from most given on room out base baselines records₀ marks₀ since rest body stores start blocks messages₀ written refusal h at₀ end s writes reads size kept records marks messages at =
     length s - at
 
 abbrev Inv-loop4 : tie.InvT-loop4
@@ -325,10 +325,10 @@ module _ {o : Opened} (p : Place o) where
   room-for n l = (p .reached .5, omega (arith, p .inside), omega (arith, p .reached .1, p .reached .2, p .inside, l))
 
   module _ (vs : List Value) (k : Cursor) (q : Parsed p vs k) where
-    refuse-parsed : (k .refusal ≡ 0 → ⊥) → (r : WrittenAt) → Refuses o (k .refusal) (p .at) r → Answered o r
-    refuse-parsed z =
-        refuse-message o (p .count) (scene p) (p .filled) (p .at) (p .size) (p .kept) (p .marks) (p .since) (p .reached) (p .inside) (k .refusal)
-        (parsed-refused (body o) (p .at) (p .inside) (p .baselines) (p .records) (present p) (p .rest) (p .going) vs k q z)
+    refuse-parsed : (k .refusal ≡ 0 → ⊥) → (n : ℕ) → n ≡ k .refusal → (r : WrittenAt) → Refuses o n (p .at) r → Answered o r
+    refuse-parsed z n same =
+        refuse-message o (p .count) (scene p) (p .filled) (p .at) (p .size) (p .kept) (p .marks) (p .since) (p .reached) (p .inside) n
+        (parsed-refused (body o) (p .at) (p .inside) (p .baselines) (p .records) (present p) (p .rest) (p .going) vs k q z ∙ ap (λ (i : ℕ). refused i (drop (p .at) (body o))) (sym same))
 
   -- A message of kind n.
   kind-here : (n : ℕ) (x : Context) (vs : List Value) (k : Cursor) → n ≡ getD (body o) (p .at) 0
@@ -410,72 +410,75 @@ module _ {o : Opened} (p : Place o) (e : List Record) (i to : ℕ) (form : List 
   marked-later : Before (set (p .marks) i n) (p .since) to (length (body o))
   marked-later = before-marked (p .marks) (p .since) (p .at) (length (body o)) (p .reached .6) to (omega (arith, less p _ to form m)) i n most within
 
--- ---- an update that is read at once
+-- ---- an update that is loaded
 
--- An update of which all bytes were loaded, and that ends inside the block; i is its entity's place in the tables.
-pub record Loaded {o : Opened} (p : Place o) (n : ℕ) (h : UpdateHead) (i : ℕ) (f : RecordAt) : Type 0 where
-  there : n ≡ getD (body o) (p .at) 0
-  large : 128 ≤ n
-  head : h ≡ headAt (input (blockOf o)) (p .at + 1) n
-  low : h .mask < 32768
-  index : i ≡ h .entity .0
-  known : i < entityCount
-  fields : recordValues (f .record) ≡ filledAt (input (blockOf o)) (baselineNumbers (getD (p .baselines) i noBaseline)) (h .mask) (h .next)
-  next : f .next ≡ passed (updateSlots (baselineNumbers (getD (p .baselines) i noBaseline))) (bit (h .mask)) (h .next)
-  flag : f .needless ≡ needlessIn (input (blockOf o)) (updateSlots (baselineNumbers (getD (p .baselines) i noBaseline))) (bit (h .mask)) (h .next) false
-  ends : f .next ≤ end o
+-- An update whose head and fields were loaded, and that ends inside the block.
+pub record Loaded {o : Opened} (p : Place o) (h : LoadedHead) (f : RecordAt) : Type 0 where
+  head : HeadLoaded (input (blockOf o)) (p .at) h
+  fields : FieldsLoaded (input (blockOf o)) (h .head) (getD (p .baselines) (h .index) noBaseline) (end o) f
 
-module _ {o : Opened} (p : Place o) (n : ℕ) (h : UpdateHead) (i : ℕ) (f : RecordAt) (l : Loaded p n h i f) where
-  at-once : QuickUpdate (input (blockOf o)) (end o) (p .at + 1) n (getD (p .baselines) i noBaseline) h i f
-  at-once =
-      let d = input (blockOf o) in
-      let small : n < 256 = omega (arith, l .there, getD-take (end o) d (p .at) 0 (omega (arith, p .inside, body-long o)), byte-fits (blockOf o) (p .at)) in
-      quick-update d (end o) (p .at + 1) n (getD (p .baselines) i noBaseline) (within o) small h i f (l .head) (l .index) (l .fields) (l .next) (l .low) (l .known) (l .ends)
-      (l .flag) (l .large) (byte-fits (blockOf o))
+module _ {o : Opened} (p : Place o) (h : LoadedHead) (f : RecordAt) (l : Loaded p h f) where
+  abbrev baseline : Baseline
+  baseline = getD (p .baselines) (h .index) noBaseline
+
+  at-once : QuickUpdate (input (blockOf o)) (end o) (p .at) baseline h f
+  at-once = quick-update (input (blockOf o)) (end o) (p .at) baseline (within o) (byte-fits (blockOf o)) h f (l .head) (l .fields)
+
+  number-there : getD (input (blockOf o)) (p .at) 0 ≡ getD (body o) (p .at) 0
+  number-there = sym (getD-take (end o) (input (blockOf o)) (p .at) 0 (omega (arith, p .inside, body-long o)))
 
   abbrev updated : ℕ → Scene
-  updated m = held (p .baselines) (set (p .records) i (f .record)) (marked (p .since) (set (p .marks) i m)) (p .rest)
+  updated m = held (p .baselines) (set (p .records) (h .index) (f .record)) (marked (p .since) (set (p .marks) (h .index) m)) (p .rest)
 
   abbrev form : List ℕ
-  form = print (layoutIn (scene p)) (sendUpdate (baselineNumbers (getD (p .baselines) i noBaseline)) (number i ∷ recordValues (f .record)))
+  form = print (layoutIn (scene p)) (sendUpdate (baselineNumbers baseline) (number (h .index) ∷ recordValues (f .record)))
 
-  at-quick : Moved (body o) (scene p) (p .at) (held (p .baselines) (set (p .records) i (f .record)) (set (present p) i true) (p .rest)) (f .next) form
-  at-quick =
-      quick-moved (body o) (p .at) (p .inside) (p .baselines) (p .records) (present p) (p .rest) (p .going) n (l .there) (l .large)
-      (at-once .high) i (at-once .sent) (f .next) (f .record) (at-once .parsed) (at-once .filled)
+  loaded-read : Moved (body o) (scene p) (p .at) (held (p .baselines) (set (p .records) (h .index) (f .record)) (set (present p) (h .index) true) (p .rest)) (f .next) form
+  loaded-read =
+      quick-moved (body o) (p .at) (p .inside) (p .baselines) (p .records) (present p) (p .rest) (p .going) (getD (input (blockOf o)) (p .at) 0) number-there (l .head .large)
+      (at-once .high) (h .index) (at-once .sent) (f .next) (f .record) (at-once .parsed) (at-once .filled)
 
   -- It is marked by its own place, or the one behind it.
   module _ (m : ℕ) (from : p .at ≤ m) (most : m ≤ f .next) where
     inside-too : m ≤ length (body o)
-    inside-too = omega (arith, l .ends, body-long o)
+    inside-too = omega (arith, l .fields .ends, body-long o)
 
     loaded-moved : Moved (body o) (scene p) (p .at) (updated m) (f .next) form
-    loaded-moved = marked-moved p (set (p .records) i (f .record)) i (f .next) form at-quick m from most inside-too
+    loaded-moved = marked-moved p (set (p .records) (h .index) (f .record)) (h .index) (f .next) form loaded-read m from most inside-too
 
-    loaded-later : Before (set (p .marks) i m) (p .since) (f .next) (length (body o))
-    loaded-later = marked-later p (set (p .records) i (f .record)) i (f .next) form at-quick m from most inside-too
+    loaded-later : Before (set (p .marks) (h .index) m) (p .since) (f .next) (length (body o))
+    loaded-later = marked-later p (set (p .records) (h .index) (f .record)) (h .index) (f .next) form loaded-read m from most inside-too
+
+  abbrev Needed : Type 0
+  Needed = (needlessIn (input (blockOf o)) (updateSlots (baselineNumbers baseline)) (bit (h .head .mask)) (h .head .next) false ≡ false) × (h .head .needless ≡ false)
 
   -- Where nothing was sent needlessly, it stays as it was read.
-  loaded-kept : f .needless ≡ false → h .needless ≡ false → form ≡ take (f .next - p .at) (drop (p .at) (body o))
-  loaded-kept none needed =
-      kept-form (body o) (p .at) (p .inside) (p .baselines) (p .records) (present p) (p .rest) (p .going) n (l .there) (l .large)
-      (at-once .high) i (at-once .sent) (f .next) (f .record) (at-once .parsed) (at-once .filled) (body-bytes o) (at-once .kept none needed)
+  loaded-kept : Needed → form ≡ take (f .next - p .at) (drop (p .at) (body o))
+  loaded-kept needed =
+      kept-form (body o) (p .at) (p .inside) (p .baselines) (p .records) (present p) (p .rest) (p .going) (getD (input (blockOf o)) (p .at) 0) number-there (l .head .large)
+      (at-once .high) (h .index) (at-once .sent) (f .next) (f .record) (at-once .parsed) (at-once .filled) (body-bytes o) (at-once .kept (needed .0) (needed .1))
 
   loaded-less : p .at < f .next
-  loaded-less = omega (arith, less p _ (f .next) _ at-quick)
+  loaded-less = omega (arith, less p _ (f .next) _ loaded-read)
 
 -- Where it is written only if nothing was sent needlessly, it is one message on.
-module _ {o : Opened} (p : Place o) (n : ℕ) (h : UpdateHead) (i : ℕ) (f : RecordAt) (l : Loaded p n h i f) where
-  loaded-on : (begun (blockOf o) .args .on ≡ true → (f .needless ≡ false) × (h .needless ≡ false))
+module _ {o : Opened} (p : Place o) (h : LoadedHead) (f : RecordAt) (l : Loaded p h f) where
+  loaded-on : (begun (blockOf o) .args .on ≡ true → Needed p h f l)
       → Along (from-here o) (begun (blockOf o) .args .on) (body o) (end o) (p .count) (scene p) (soFar (begun (blockOf o) .args .on) (p .filled) (p .size) (body o) (p .kept) (p .at)) (p .at)
-      (p .count + 1) (updated p n h i f l (f .next)) (p .filled) (f .next) (p .size) (p .kept) (set (p .marks) i (f .next)) (p .since)
+      (p .count + 1) (updated p h f l (f .next)) (p .filled) (f .next) (p .size) (p .kept) (set (p .marks) (h .index) (f .next)) (p .since)
   loaded-on needed =
-      let before = loaded-less p n h i f l in
+      let before = loaded-less p h f l in
       step-on p _ (f .next) _ _ _
-      (kept-step p _ (f .next) _ (loaded-moved p n h i f l (f .next) (omega (arith, before)) (omega arith)) (λ on. let z = needed on in loaded-kept p n h i f l (z .0) (z .1)))
-      _ _ (loaded-later p n h i f l (f .next) (omega (arith, before)) (omega arith))
+      (kept-step p _ (f .next) _ (loaded-moved p h f l (f .next) (omega (arith, before)) (omega arith)) (λ on. loaded-kept p h f l (needed on)))
+      _ _ (loaded-later p h f l (f .next) (omega (arith, before)) (omega arith))
 
 -- ---- the loops over updates: of those that are written, then of those that are not
+
+abbrev AtTurn : Type 0
+AtTurn = tie.At-loop2 Inv-loop3 μ-loop3 Inv-loop4 μ-loop4 Inv-loop2 μ-loop2 Inv-loop μ-loop
+
+abbrev openedAt : AtTurn → Opened
+openedAt k = k .before .before .before
 
 abbrev AtWritten : Type 0
 AtWritten = tie.At-loop3 Inv-loop3 μ-loop3 Inv-loop4 μ-loop4 Inv-loop2 μ-loop2 Inv-loop μ-loop
@@ -484,11 +487,11 @@ abbrev AtRead : Type 0
 AtRead = tie.At-loop4 Inv-loop3 μ-loop3 Inv-loop4 μ-loop4 Inv-loop2 μ-loop2 Inv-loop μ-loop
 
 -- Where the loop over messages stands, and its block.
-abbrev turn : AtWritten → tie.At-loop2 Inv-loop3 μ-loop3 Inv-loop4 μ-loop4 Inv-loop2 μ-loop2 Inv-loop μ-loop
+abbrev turn : AtWritten → AtTurn
 turn c = c .before .before .before
 
 abbrev opening : AtWritten → Opened
-opening c = turn c .before .before
+opening c = openedAt (turn c)
 
 -- A place that they came to from there.
 abbrev placeIn : (c : AtWritten) (records : List Record) (marks : List ℕ) (count at : ℕ)
@@ -529,67 +532,56 @@ reached-read c =
     let i = c .loop4 .inv .0 in
     (i .0, i .1, i .2, i .3, reached-written (c .before .before) .4 ∙ i .4, i .5, i .6)
 
--- All bytes that an update could have are there, and the first is in the block.
-there : (c : AtWritten) (at : ℕ) → at < turn c .before .quick-until .result → (at < end (opening c)) × (at + 18 ≤ length (input (blockOf (opening c))))
-there c at t = before-stop (length (input (blockOf (opening c)))) (end (opening c)) _ at (turn c .before .quick-until .ensures) t
-
-abbrev kind : AtWritten → ℕ → ℕ
-kind c at = getD (input (blockOf (opening c))) at 0
-
-kind-there : (c : AtWritten) (at : ℕ) → at < end (opening c) → kind c at ≡ getD (body (opening c)) at 0
-kind-there c at l = sym (getD-take (end (opening c)) (input (blockOf (opening c))) at 0 l)
-
 -- ---- an update that is to be written
 
 abbrev ToWrite : Type 0
 ToWrite = tie.In-loop3 Inv-loop3 μ-loop3 Inv-loop4 μ-loop4 Inv-loop2 μ-loop2 Inv-loop μ-loop
 
-to-write : (c : ToWrite) → (c .before .loop3 .at < end (opening (c .before))) × (c .before .loop3 .at + 18 ≤ length (input (blockOf (opening (c .before)))))
+-- It is written, and all bytes that it could have are there.
+to-write : (c : ToWrite)
+    → let o = opening (c .before) in
+    (begun (blockOf o) .args .on ≡ true) × (c .before .loop3 .at < end o) × (c .before .loop3 .at + 18 ≤ length (input (blockOf o)))
 to-write c =
     let o = opening (c .before) in
-    let stop = turn (c .before) .before .quick-until .result in
-    there (c .before) (c .before .loop3 .at) (ltb-true _ _ (and-true (begun (blockOf o) .args .on) (ltb (c .before .loop3 .at) stop) (c .loop3-test .taken) .1))
+    before-stop (begun (blockOf o) .args .on) (length (input (blockOf o))) (end o) _ (c .before .loop3 .at) (turn (c .before) .before .before .loaded-until .ensures) (c .loop3-test .taken)
 
 abbrev writePlace : (c : ToWrite) → Place (opening (c .before))
 writePlace c =
     let l = c .before .loop3 in
-    placeIn (c .before) (l .records) (l .marks) (l .messages) (l .at) (reached-written (c .before)) (omega (arith, to-write c, body-long (opening (c .before))))
+    placeIn (c .before) (l .records) (l .marks) (l .messages) (l .at) (reached-written (c .before)) (omega (arith, to-write c .1, body-long (opening (c .before))))
 
--- Its head and its fields were read, and it ends inside the block.
+-- Its head was loaded and has no needless byte.
+abbrev HeadWritten : Type 0
+HeadWritten = tie.Else4 Inv-loop3 μ-loop3 Inv-loop4 μ-loop4 Inv-loop2 μ-loop2 Inv-loop μ-loop
+
+head-written : (c : HeadWritten)
+    → let w = writePlace (c .before .before .before) in
+    let h = c .before .before .load-head .result in
+    HeadLoaded (input (blockOf (opening (c .before .before .before .before)))) (w .at) h × (h .head .needless ≡ false)
+head-written c =
+    let h = c .before .before .load-head in
+    let t = or-false (h .result .left) (h .result .head .needless) (c .if4 .left) in
+    (h .ensures (t .0), t .1)
+
+-- Its fields were loaded too.
 abbrev FoundWritten : Type 0
 FoundWritten = tie.After-record Inv-loop3 μ-loop3 Inv-loop4 μ-loop4 Inv-loop2 μ-loop2 Inv-loop μ-loop
 
+abbrev headed : FoundWritten → HeadWritten
+headed c = c .before .before .before .before
+
 abbrev writing : FoundWritten → ToWrite
-writing c = c .before .before .before .before .before .before .before .before .before .before .before .before .before
+writing c = headed c .before .before .before
 
-abbrev headWritten : FoundWritten → UpdateHead
-headWritten c = c .before .before .before .before .before .before .before .before .before .before .update-head .result
-
-abbrev indexWritten : FoundWritten → ℕ
-indexWritten c = c .before .before .before .before .before .before .before .before .index-of .result
+abbrev headWritten : FoundWritten → LoadedHead
+headWritten c = headed c .before .before .load-head .result
 
 abbrev fieldsWritten : FoundWritten → RecordAt
-fieldsWritten c = c .before .before .before .needed-fields .result
+fieldsWritten c = c .before .before .needed-fields .result
 
-abbrev kindWritten : FoundWritten → ℕ
-kindWritten c = kind (writing c .before) (writing c .before .loop3 .at)
-
-found-written : (c : FoundWritten) → Loaded (writePlace (writing c)) (kindWritten c) (headWritten c) (indexWritten c) (fieldsWritten c)
+found-written : (c : FoundWritten) → Loaded (writePlace (writing c)) (headWritten c) (fieldsWritten c)
 found-written c =
-    let f = c .before .before .before .needed-fields in
-    let z = c .before .before .if8 .left in
-    record {
-      there = kind-there (writing c .before) (writing c .before .loop3 .at) (to-write (writing c) .0);
-      large = c .before .before .before .before .before .before .before .before .before .before .before .if4 .left;
-      head = c .before .before .before .before .before .before .before .before .before .before .update-head .ensures .0;
-      index = c .before .before .before .before .before .before .before .before .index-of .ensures;
-      low = c .before .before .before .before .before .before .if6 .left;
-      known = c .before .before .before .before .before .before .before .if5 .left;
-      fields = f .ensures .1 .0 z;
-      next = f .ensures .1 .1 z;
-      flag = f .ensures .0;
-      ends = c .before .if9 .left;
-    }
+    record { head = head-written (headed c) .0; fields = c .before .before .needed-fields .ensures .0 (c .before .if5 .left) }
 
 -- ---- an update that is only read
 
@@ -603,10 +595,10 @@ to-read : (c : ToRead)
     → let o = opening (behindWritten c) in
     (begun (blockOf o) .args .on ≡ false) × (c .before .loop4 .at < end o) × (c .before .loop4 .at + 18 ≤ length (input (blockOf o)))
 to-read c =
-    let on = begun (blockOf (opening (behindWritten c))) .args .on in
-    let t = and-true (not on) (ltb (c .before .loop4 .at) (turn (behindWritten c) .before .quick-until .result)) (c .loop4-test .taken) in
-    let w = there (behindWritten c) (c .before .loop4 .at) (ltb-true _ _ (t .1)) in
-    (not-true on (t .0), w .0, w .1)
+    let o = opening (behindWritten c) in
+    let on = begun (blockOf o) .args .on in
+    let w = before-stop (not on) (length (input (blockOf o))) (end o) _ (c .before .loop4 .at) (turn (behindWritten c) .before .loaded-until2 .ensures) (c .loop4-test .taken) in
+    (not-true on (w .0), w .1, w .2)
 
 abbrev readPlace : (c : ToRead) → Place (opening (behindWritten c))
 readPlace c =
@@ -617,40 +609,25 @@ abbrev FoundRead : Type 0
 FoundRead = tie.After-record2 Inv-loop3 μ-loop3 Inv-loop4 μ-loop4 Inv-loop2 μ-loop2 Inv-loop μ-loop
 
 abbrev reading : FoundRead → ToRead
-reading c = c .before .before .before .before .before .before .before .before .before .before .before
+reading c = c .before .before .before .before .before .before
 
-abbrev headRead : FoundRead → UpdateHead
-headRead c = c .before .before .before .before .before .before .before .before .update-head2 .result
-
-abbrev indexRead : FoundRead → ℕ
-indexRead c = c .before .before .before .before .before .before .index-of2 .result
+abbrev headRead : FoundRead → LoadedHead
+headRead c = c .before .before .before .before .before .load-head2 .result
 
 abbrev fieldsRead : FoundRead → RecordAt
 fieldsRead c = c .before .before .update-fields .result
 
-abbrev kindRead : FoundRead → ℕ
-kindRead c = kind (behindWritten (reading c)) (reading c .before .loop4 .at)
-
-found-read : (c : FoundRead) → Loaded (readPlace (reading c)) (kindRead c) (headRead c) (indexRead c) (fieldsRead c)
+found-read : (c : FoundRead) → Loaded (readPlace (reading c)) (headRead c) (fieldsRead c)
 found-read c =
-    let f = c .before .before .update-fields in
     record {
-      there = kind-there (behindWritten (reading c)) (reading c .before .loop4 .at) (to-read (reading c) .1);
-      large = c .before .before .before .before .before .before .before .before .before .if10 .left;
-      head = c .before .before .before .before .before .before .before .before .update-head2 .ensures .0;
-      index = c .before .before .before .before .before .before .index-of2 .ensures;
-      low = c .before .before .before .before .if12 .left;
-      known = c .before .before .before .before .before .if11 .left;
-      fields = f .ensures .0;
-      next = f .ensures .1 .0;
-      flag = f .ensures .1 .1;
-      ends = c .before .if13 .left;
+      head = c .before .before .before .before .before .load-head2 .ensures (c .before .before .before .before .if6 .left);
+      fields = c .before .before .update-fields .ensures (c .before .if7 .left);
     }
 
 -- ---- where another message is to be read
 
 abbrev AtMessage : Type 0
-AtMessage = tie.Else14 Inv-loop3 μ-loop3 Inv-loop4 μ-loop4 Inv-loop2 μ-loop2 Inv-loop μ-loop
+AtMessage = tie.Else8 Inv-loop3 μ-loop3 Inv-loop4 μ-loop4 Inv-loop2 μ-loop2 Inv-loop μ-loop
 
 abbrev inBlock : AtMessage → Opened
 inBlock c = opening (c .before .before .before .before)
@@ -658,336 +635,471 @@ inBlock c = opening (c .before .before .before .before)
 abbrev message : (c : AtMessage) → Place (inBlock c)
 message c =
     let l = c .before .before .loop4 in
-    placeIn (c .before .before .before .before) (l .records) (l .marks) (l .messages) (l .at) (reached-read (c .before .before)) (c .if14 .left)
+    placeIn (c .before .before .before .before) (l .records) (l .marks) (l .messages) (l .at) (reached-read (c .before .before)) (c .if8 .left)
 
 -- It lies no further back than where the turn began.
 ahead : (c : AtMessage) → turn (c .before .before .before .before) .loop2 .at ≤ message c .at
 ahead c = omega (arith, c .before .before .loop4 .inv .1, c .before .before .before .before .loop3 .inv .1)
 
-sound-parsed : (c : tie.After-sound-at Inv-loop3 μ-loop3 Inv-loop4 μ-loop4 Inv-loop2 μ-loop2 Inv-loop μ-loop) → Parsed (message (c .before .before .before)) (number Kind.sound ∷ soundValues (c .sound-at .result .heard)) (c .sound-at .result .cursor)
+-- The turn ends one message on.
+module _ (c : AtMessage) (t : Scene) (to : ℕ) (filled : List ℕ) (size kept : ℕ) (s : Step (message c) t to filled size kept) where
+  turn-less : length (body (inBlock c)) - to < length (body (inBlock c)) - turn (c .before .before .before .before) .loop2 .at
+  turn-less = omega (arith, step-less (message c) t to filled size kept s, ahead c)
+
+  turned : (marks : List ℕ) (since : ℕ) → Before marks since to (length (body (inBlock c))) → Reached (inBlock c) (message c .count + 1) t filled to size kept marks since
+  turned marks since w =
+      let q = step-on (message c) t to filled size kept s marks since w in
+      (q .0, q .1, q .2, q .3, message c .reached .4 ∙ q .4, q .5, q .6)
+
+  -- Where no mark changes.
+  turned-still : Reached (inBlock c) (message c .count + 1) t filled to size kept (message c .marks) (message c .since)
+  turned-still = turned (message c .marks) (message c .since) (later (message c) t to filled size kept s)
+
+-- Where all marks are taken away.
+module _ (c : AtMessage) (b : List Baseline) (e : List Record) (x : Rest) (to : ℕ)
+    (mv : Moved (body (inBlock c)) (scene (message c)) (message c .at) (held b e (replicate entityCount false) x) to (take (to - message c .at) (drop (message c .at) (body (inBlock c))))) where
+  unmarked-step : Step (message c) (held b e (marked (message c .at) (message c .marks)) x) to (message c .filled) (message c .size) (message c .kept)
+  unmarked-step =
+      let k = message c in
+      let s = body (inBlock c) in
+      kept-step k _ to _
+      (subst (λ (q : List Bool). Moved s (scene k) (k .at) (held b e q x) to (take (to - k .at) (drop (k .at) s))) (sym (marked-none (k .marks) (k .at) (k .reached .6 .marks-within))) mv)
+      (λ on. refl)
+
+  unmarked-less : length (body (inBlock c)) - to < length (body (inBlock c)) - turn (c .before .before .before .before) .loop2 .at
+  unmarked-less = turn-less c _ to _ _ _ unmarked-step
+
+  unmarked : Reached (inBlock c) (message c .count + 1) (held b e (marked (message c .at) (message c .marks)) x) (message c .filled) to (message c .size) (message c .kept) (message c .marks) (message c .at)
+  unmarked =
+      let k = message c in
+      turned c _ to _ _ _ unmarked-step (k .marks) (k .at)
+      (before-timed (k .marks) (k .since) (k .at) (length (body (inBlock c))) (k .reached .6) to (omega (arith, step-less k _ to _ _ _ unmarked-step)) (omega (arith, k .inside)))
+
+-- ---- by its kind
+
+abbrev AtKind : Type 0
+AtKind = tie.After-context Inv-loop3 μ-loop3 Inv-loop4 μ-loop4 Inv-loop2 μ-loop2 Inv-loop μ-loop
+
+abbrev at : AtKind → AtMessage
+at c = c .before .before
+
+-- A sound.
+abbrev SoundRead : Type 0
+SoundRead = tie.After-sound-turn Inv-loop3 μ-loop3 Inv-loop4 μ-loop4 Inv-loop2 μ-loop2 Inv-loop μ-loop
+
+abbrev soundAt : SoundRead → AtMessage
+soundAt c = at (c .before .before .before)
+
+sound-parsed : (c : SoundRead) → Parsed (message (soundAt c)) (number Kind.sound ∷ soundValues (c .sound-turn .result .heard)) (c .sound-turn .result .cursor)
 sound-parsed c =
-    let x = contextOf (scene (message (c .before .before .before))) in
-    kind-here (message (c .before .before .before)) Kind.sound x _ (c .sound-at .result .cursor) (sym (c .before .match .keys1)) refl no-static-sound refl (c .sound-at .ensures x)
+    let x = contextOf (scene (message (soundAt c))) in
+    kind-here (message (soundAt c)) Kind.sound x _ (c .sound-turn .result .cursor) (sym (c .before .before .match .keys1)) refl no-static-sound refl (c .sound-turn .ensures .0 x)
 
-time-parsed : (c : tie.After-time-at Inv-loop3 μ-loop3 Inv-loop4 μ-loop4 Inv-loop2 μ-loop2 Inv-loop μ-loop) → Parsed (message (c .before .before .before .before)) (number 7 ∷ number (c .time-at .result .value) ∷ []) (c .time-at .result .cursor)
+sound-step : (c : tie.Then9 Inv-loop3 μ-loop3 Inv-loop4 μ-loop4 Inv-loop2 μ-loop2 Inv-loop μ-loop)
+    → let r = c .before .before in
+    let t = r .sound-turn .result in
+    Step (message (soundAt r)) (scene (message (soundAt r))) (t .cursor .at) (r .sound-turn .last .1 .0) (t .size) (t .kept)
+sound-step c =
+    let r = c .before .before in
+    let k = message (soundAt r) in
+    let t = r .sound-turn in
+    behind-step k _ (t .result .cursor .at) _
+    (sound-moved (body (inBlock (soundAt r))) (k .at) (k .inside) (k .baselines) (k .records) (present k) (k .rest) (k .going) (t .result .heard) (t .result .cursor) (sound-parsed r) (c .if9 .taken))
+    _ (λ e. e) (λ on e. sent-always (sym on ∙ e)) _ _ _ (t .ensures .1 (contextOf (scene k)))
+
+-- A time.
+abbrev TimeRead : Type 0
+TimeRead = tie.After-time-at Inv-loop3 μ-loop3 Inv-loop4 μ-loop4 Inv-loop2 μ-loop2 Inv-loop μ-loop
+
+abbrev timeAt : TimeRead → AtMessage
+timeAt c = at (c .before .before)
+
+time-parsed : (c : TimeRead) → Parsed (message (timeAt c)) (number 7 ∷ number (c .time-at .result .value) ∷ []) (c .time-at .result .cursor)
 time-parsed c =
-    kind-here (message (c .before .before .before .before)) 7 _ _ (c .time-at .result .cursor) (sym (c .before .before .match .keys2)) refl no-static-time
-    (c .before .context .ensures _ _ _) (c .time-at .ensures)
+    kind-here (message (timeAt c)) 7 _ _ (c .time-at .result .cursor) (sym (c .before .match .keys2)) refl no-static-time (c .before .before .context .ensures _ _ _) (c .time-at .ensures)
 
-client-here : (c : tie.After-client-at Inv-loop3 μ-loop3 Inv-loop4 μ-loop4 Inv-loop2 μ-loop2 Inv-loop μ-loop)
-    → let p = message (c .before .before .before) in
-    ClientRead (body (inBlock (c .before .before .before))) (p .at + 1) (contextOf (scene p)) (c .client-at .result .client) (c .client-at .result .cursor)
+abbrev Timed : Type 0
+Timed = tie.After-with-time Inv-loop3 μ-loop3 Inv-loop4 μ-loop4 Inv-loop2 μ-loop2 Inv-loop μ-loop
+
+time-read : (c : Timed)
+    → let r = c .before .before in
+    let k = message (timeAt r) in
+    let to = r .time-at .result .cursor .at in
+    Moved (body (inBlock (timeAt r))) (scene k) (k .at) (held (k .baselines) (k .records) (replicate entityCount false) (c .with-time .result)) to (take (to - k .at) (drop (k .at) (body (inBlock (timeAt r)))))
+time-read c =
+    let r = c .before .before in
+    let k = message (timeAt r) in
+    time-moved (body (inBlock (timeAt r))) (k .at) (k .inside) (k .baselines) (k .records) (present k) (k .rest) (k .going) (body-bytes (inBlock (timeAt r))) (r .time-at .result .value) (c .with-time .result)
+    (r .time-at .result .cursor) (time-parsed r) (c .before .if10 .taken) (c .with-time .ensures)
+
+-- Clientdata.
+abbrev ClientTaken : Type 0
+ClientTaken = tie.After-client-turn Inv-loop3 μ-loop3 Inv-loop4 μ-loop4 Inv-loop2 μ-loop2 Inv-loop μ-loop
+
+abbrev clientDataAt : ClientTaken → AtMessage
+clientDataAt c = at (c .before .before .before)
+
+client-here : (c : ClientTaken)
+    → let p = message (clientDataAt c) in
+    ClientRead (body (inBlock (clientDataAt c))) (p .at + 1) (contextOf (scene p)) (c .client-turn .result .client) (c .client-turn .result .cursor)
 client-here c =
-    let p = message (c .before .before .before) in
-    client-read (body (inBlock (c .before .before .before))) (p .at + 1) (contextOf (scene p)) (c .client-at .result .client) (c .client-at .result .cursor) (c .client-at .ensures .0 (contextOf (scene p)))
+    let p = message (clientDataAt c) in
+    client-read (body (inBlock (clientDataAt c))) (p .at + 1) (contextOf (scene p)) (c .client-turn .result .client) (c .client-turn .result .cursor) (c .client-turn .ensures .0 (contextOf (scene p)))
 
-client-parsed : (c : tie.After-client-at Inv-loop3 μ-loop3 Inv-loop4 μ-loop4 Inv-loop2 μ-loop2 Inv-loop μ-loop) → Parsed (message (c .before .before .before)) (number 15 ∷ client-here c .sent) (c .client-at .result .cursor)
+client-parsed : (c : ClientTaken) → Parsed (message (clientDataAt c)) (number 15 ∷ client-here c .sent) (c .client-turn .result .cursor)
 client-parsed c =
-    kind-here (message (c .before .before .before)) 15 (contextOf (scene (message (c .before .before .before)))) _ (c .client-at .result .cursor) (sym (c .before .match .keys3)) refl no-static-client refl (client-here c .read)
+    kind-here (message (clientDataAt c)) 15 (contextOf (scene (message (clientDataAt c)))) _ (c .client-turn .result .cursor) (sym (c .before .before .match .keys3)) refl no-static-client refl (client-here c .read)
 
 -- Where nothing was sent needlessly, it is its own normal form.
-client-again : (c : tie.After-client-at Inv-loop3 μ-loop3 Inv-loop4 μ-loop4 Inv-loop2 μ-loop2 Inv-loop μ-loop) → c .client-at .result .needless ≡ false
-    → Parsed (message (c .before .before .before)) (sendClient (clientValues (c .client-at .result .client))) (c .client-at .result .cursor)
+client-again : (c : ClientTaken) → c .client-turn .result .anew ≡ false
+    → Parsed (message (clientDataAt c)) (sendClient (clientValues (c .client-turn .result .client))) (c .client-turn .result .cursor)
 client-again c e =
-    let x = contextOf (scene (message (c .before .before .before))) in
-    kind-here (message (c .before .before .before)) 15 x _ (c .client-at .result .cursor) (sym (c .before .match .keys3)) refl no-static-client refl (c .client-at .ensures .1 x e)
+    let x = contextOf (scene (message (clientDataAt c))) in
+    kind-here (message (clientDataAt c)) 15 x _ (c .client-turn .result .cursor) (sym (c .before .before .match .keys3)) refl no-static-client refl (c .client-turn .ensures .1 .0 x e)
 
-other-read : (c : tie.After-read-message Inv-loop3 μ-loop3 Inv-loop4 μ-loop4 Inv-loop2 μ-loop2 Inv-loop μ-loop) → Parsed (message (c .before .before .before .before .before .before .before)) (valuesOf (body (inBlock (c .before .before .before .before .before .before .before))) (c .read-message .result .message)) (c .read-message .result .cursor)
-other-read c =
-    let p = message (c .before .before .before .before .before .before .before) in
-    let o = inBlock (c .before .before .before .before .before .before .before) in
-    other-parsed (body o) (p .at) (p .inside) (p .baselines) (p .records) (present p) (p .rest) (p .going) (body-bytes o) _
-    (c .before .context3 .ensures _ _ _) (c .read-message .result .message) (c .read-message .result .cursor) (c .read-message .ensures)
-
-update-read : (c : tie.After-read-update Inv-loop3 μ-loop3 Inv-loop4 μ-loop4 Inv-loop2 μ-loop2 Inv-loop μ-loop) → Parsed (message (c .before .before .before .before .before)) (updateValues (c .read-update .result .update)) (c .read-update .result .cursor)
-update-read c =
-    let p = message (c .before .before .before .before .before) in
-    let o = inBlock (c .before .before .before .before .before) in
-    update-parsed (body o) (p .at) (p .inside) (p .baselines) (p .records) (present p) (p .rest) (p .going) (body-bytes o) _ refl (c .before .before .if18 .left)
-    (c .read-update .result .update) (c .read-update .result .cursor) (c .read-update .ensures)
-
--- The entity of a baseline, and of an update, is known.
-baseline-entity : (c : tie.After-message Inv-loop3 μ-loop3 Inv-loop4 μ-loop4 Inv-loop2 μ-loop2 Inv-loop μ-loop) → c .message .given .0 .0 .0 < entityCount
-baseline-entity c =
-    let r = c .before .before .before .before in
-    let o = inBlock (r .before .before .before .before .before .before .before) in
-    let p = message (r .before .before .before .before .before .before .before) in
-    baseline-known (body o) (p .at) (p .inside) (p .baselines) (p .records) (present p) (p .rest) (p .going) (body-bytes o) _
-    (r .before .context3 .ensures _ _ _) (r .read-message .result .message) (r .read-message .result .cursor) (r .read-message .ensures) (c .before .before .if21 .left) _ _ _
-    (c .message .given .1)
-
-baseline-index : (c : tie.After-index-of3 Inv-loop3 μ-loop3 Inv-loop4 μ-loop4 Inv-loop2 μ-loop2 Inv-loop μ-loop) → c .index-of3 .result < entityCount
-baseline-index c = omega (arith, c .index-of3 .ensures, baseline-entity (c .before .before))
-
-update-entity : (c : tie.Else25 Inv-loop3 μ-loop3 Inv-loop4 μ-loop4 Inv-loop2 μ-loop2 Inv-loop μ-loop) → c .before .before .read-update .result .update .entity .0 < entityCount
-update-entity c =
-    let r = c .before .before in
-    let o = inBlock (r .before .before .before .before .before) in
-    let p = message (r .before .before .before .before .before) in
-    update-known (body o) (p .at) (p .inside) (p .baselines) (p .records) (present p) (p .rest) (p .going) (body-bytes o) _ refl (r .before .before .if18 .left)
-    (r .read-update .result .update) (r .read-update .result .cursor) (r .read-update .ensures) (c .if25 .left)
-
-update-index : (c : tie.After-index-of5 Inv-loop3 μ-loop3 Inv-loop4 μ-loop4 Inv-loop2 μ-loop2 Inv-loop μ-loop) → c .index-of5 .result < entityCount
-update-index c = omega (arith, c .index-of5 .ensures, update-entity (c .before .before .before))
+client-step : (c : tie.After-with-client Inv-loop3 μ-loop3 Inv-loop4 μ-loop4 Inv-loop2 μ-loop2 Inv-loop μ-loop)
+    → let r = c .before .before .before in
+    let k = message (clientDataAt r) in
+    let t = r .client-turn .result in
+    Step k (held (k .baselines) (k .records) (present k) (c .with-client .result)) (t .cursor .at) (r .client-turn .last .1 .0) (t .size) (t .kept)
+client-step c =
+    let r = c .before .before .before in
+    let k = message (clientDataAt r) in
+    let s = body (inBlock (clientDataAt r)) in
+    let t = r .client-turn in
+    let good = c .before .if11 .taken in
+    behind-step k _ (t .result .cursor .at) _
+    (client-moved s (k .at) (k .inside) (k .baselines) (k .records) (present k) (k .rest) (k .going) _ (t .result .client) (c .with-client .result) (t .result .cursor) (client-parsed r) good (client-here r .filled good) (c .with-client .ensures))
+    _ (λ e. and-true _ _ e .0)
+    (λ on e. kept-client s (k .at) (k .inside) (k .baselines) (k .records) (present k) (k .rest) (k .going) (body-bytes (inBlock (clientDataAt r))) (t .result .client) (t .result .cursor) (client-again r (and-false _ _ on e)) good)
+    _ _ _ (t .ensures .1 .1 (contextOf (scene k)))
 
 -- A message that is passed.
 abbrev Passing : Type 0
 Passing = tie.After-pass-message Inv-loop3 μ-loop3 Inv-loop4 μ-loop4 Inv-loop2 μ-loop2 Inv-loop μ-loop
 
-abbrev passedAt : (c : Passing) → Place (inBlock (c .before .before .before .before .before .before .before))
-passedAt c = message (c .before .before .before .before .before .before .before)
+abbrev passedAt : Passing → AtMessage
+passedAt c = at (c .before .before .before .before .before)
 
 abbrev passedKind : Passing → ℕ
-passedKind c = getD (body (inBlock (c .before .before .before .before .before .before .before))) (passedAt c .at) 0
+passedKind c = getD (body (inBlock (passedAt c))) (message (passedAt c) .at) 0
 
-passes : (c : tie.Then19 Inv-loop3 μ-loop3 Inv-loop4 μ-loop4 Inv-loop2 μ-loop2 Inv-loop μ-loop) → isPassed (getD (body (inBlock (c .before .before .before .before .before))) (message (c .before .before .before .before .before) .at) 0) ≡ true
-passes c = sym (c .before .is-passed .ensures) ∙ c .if19 .taken
+passes : (c : tie.Then13 Inv-loop3 μ-loop3 Inv-loop4 μ-loop4 Inv-loop2 μ-loop2 Inv-loop μ-loop)
+    → let m = at (c .before .before .before .before) in
+    isPassed (getD (body (inBlock m)) (message m .at) 0) ≡ true
+passes c = sym (c .before .is-passed .ensures) ∙ c .if13 .taken
 
-passed-here : (c : Passing) → Passed (body (inBlock (c .before .before .before .before .before .before .before))) (here (passedAt c .at + 1)) (numbersOf (c .before .context2 .result)) (passedKind c) (c .pass-message .result)
-passed-here c = passed-read (body (inBlock (c .before .before .before .before .before .before .before))) (here (passedAt c .at + 1)) _ (passedKind c) (c .pass-message .result) (c .pass-message .ensures)
+passed-here : (c : Passing) → Passed (body (inBlock (passedAt c))) (here (message (passedAt c) .at + 1)) (numbersOf (c .before .before .before .before .before .context .result)) (passedKind c) (c .pass-message .result)
+passed-here c = passed-read (body (inBlock (passedAt c))) (here (message (passedAt c) .at + 1)) _ (passedKind c) (c .pass-message .result) (c .pass-message .ensures)
 
-pass-parsed : (c : Passing) → Parsed (passedAt c) (number (passedKind c) ∷ passed-here c .values) (c .pass-message .result)
+pass-parsed : (c : Passing) → Parsed (message (passedAt c)) (number (passedKind c) ∷ passed-here c .values) (c .pass-message .result)
 pass-parsed c =
-    let p = passedAt c in
-    passed-parsed (body (inBlock (c .before .before .before .before .before .before .before))) (p .at) (p .inside) (p .baselines) (p .records) (present p) (p .rest) (p .going) (passedKind c) (passes (c .before .before)) refl _
-    (c .before .context2 .ensures _ _ _) (passed-here c .values) (c .pass-message .result) (passed-here c .read)
+    let p = message (passedAt c) in
+    passed-parsed (body (inBlock (passedAt c))) (p .at) (p .inside) (p .baselines) (p .records) (present p) (p .rest) (p .going) (passedKind c) (passes (c .before)) refl _
+    (c .before .before .before .before .before .context .ensures _ _ _) (passed-here c .values) (c .pass-message .result) (passed-here c .read)
 
-pass-step : (c : tie.Else20 Inv-loop3 μ-loop3 Inv-loop4 μ-loop4 Inv-loop2 μ-loop2 Inv-loop μ-loop)
-    → let p = passedAt (c .before) in
+pass-step : (c : tie.Then14 Inv-loop3 μ-loop3 Inv-loop4 μ-loop4 Inv-loop2 μ-loop2 Inv-loop μ-loop)
+    → let p = message (passedAt (c .before)) in
     Step p (scene p) (c .before .pass-message .result .at) (p .filled) (p .size) (p .kept)
 pass-step c =
     let r = c .before in
-    let p = passedAt r in
-    let o = inBlock (r .before .before .before .before .before .before .before) in
+    let p = message (passedAt r) in
     kept-step p (scene p) (r .pass-message .result .at) _
-    (passed-moved (body o) (p .at) (p .inside) (p .baselines) (p .records) (present p) (p .rest) (p .going) (body-bytes o) (passedKind r) (passes (r .before .before))
-    (passed-here r .values) (r .pass-message .result) (pass-parsed r) (c .if20 .left)) (λ on. refl)
+    (passed-moved (body (inBlock (passedAt r))) (p .at) (p .inside) (p .baselines) (p .records) (present p) (p .rest) (p .going) (body-bytes (inBlock (passedAt r))) (passedKind r) (passes (r .before))
+    (passed-here r .values) (r .pass-message .result) (pass-parsed r) (c .if14 .taken)) (λ on. refl)
 
--- An update that is to be put anew was loaded again.
-abbrev Again : Type 0
-Again = tie.After-record3 Inv-loop3 μ-loop3 Inv-loop4 μ-loop4 Inv-loop2 μ-loop2 Inv-loop μ-loop
+-- Another message.
+abbrev OtherRead : Type 0
+OtherRead = tie.After-read-message Inv-loop3 μ-loop3 Inv-loop4 μ-loop4 Inv-loop2 μ-loop2 Inv-loop μ-loop
 
-abbrev placeOf : (c : Again) → Place (inBlock (c .before .before .before .before .before .before .before .before .before .before .before .before))
-placeOf c = message (c .before .before .before .before .before .before .before .before .before .before .before .before)
+abbrev otherAt : OtherRead → AtMessage
+otherAt c = at (c .before .before .before .before .before)
 
-abbrev kindOf : Again → ℕ
-kindOf c = getD (body (inBlock (c .before .before .before .before .before .before .before .before .before .before .before .before))) (placeOf c .at) 0
+abbrev otherPlace : (c : OtherRead) → Place (inBlock (otherAt c))
+otherPlace c = message (otherAt c)
 
-abbrev headAgain : Again → UpdateHead
-headAgain c = c .before .before .before .before .before .before .before .update-head3 .result
+other-context : (c : OtherRead) → numbersOf (c .before .before .before .before .before .context .result) ≡ contextOf (scene (otherPlace c))
+other-context c = c .before .before .before .before .before .context .ensures _ _ _
 
-abbrev indexAgain : Again → ℕ
-indexAgain c = c .before .before .before .before .before .index-of4 .result
+other-read : (c : OtherRead) → Parsed (otherPlace c) (valuesOf (body (inBlock (otherAt c))) (c .read-message .result .message)) (c .read-message .result .cursor)
+other-read c =
+    let p = otherPlace c in
+    other-parsed (body (inBlock (otherAt c))) (p .at) (p .inside) (p .baselines) (p .records) (present p) (p .rest) (p .going) (body-bytes (inBlock (otherAt c))) _
+    (other-context c) (c .read-message .result .message) (c .read-message .result .cursor) (c .read-message .ensures)
 
-abbrev fieldsAgain : Again → RecordAt
-fieldsAgain c = c .before .before .update-fields2 .result
+-- It is none of those above.
+abbrev matched : OtherRead → tie.At-match-rest Inv-loop3 μ-loop3 Inv-loop4 μ-loop4 Inv-loop2 μ-loop2 Inv-loop μ-loop
+matched c = c .before .before .before .before
 
--- It is to be written, and all bytes that it could have are there.
-to-load : (c : tie.Then22 Inv-loop3 μ-loop3 Inv-loop4 μ-loop4 Inv-loop2 μ-loop2 Inv-loop μ-loop)
-    → let m = c .before .before .before .before in
-    (begun (blockOf (inBlock m)) .args .on ≡ true) × (message m .at + 18 ≤ length (input (blockOf (inBlock m))))
-to-load c =
-    let m = c .before .before .before .before in
-    let o = inBlock m in
-    let t = and-true _ _ (c .if22 .taken) in
-    (t .0, before-stop (length (input (blockOf o))) (end o) _ (message m .at) (m .before .before .before .before .before .before .before .before .quick-until .ensures) (ltb-true _ _ (t .1)) .1)
+abbrev OtherFound : Type 0
+OtherFound = tie.Then15 Inv-loop3 μ-loop3 Inv-loop4 μ-loop4 Inv-loop2 μ-loop2 Inv-loop μ-loop
 
--- Its entity and its mask were tested.
-tested : (c : tie.Then23 Inv-loop3 μ-loop3 Inv-loop4 μ-loop4 Inv-loop2 μ-loop2 Inv-loop μ-loop) → (c .before .index-of4 .result < entityCount) × (c .before .before .before .update-head3 .result .mask < 32768)
-tested c =
-    let t = and-true _ _ (c .if23 .taken) in
-    (ltb-true _ _ (t .0), ltb-true _ _ (t .1))
+-- The entity of a baseline is known.
+abbrev BaselineRead : Type 0
+BaselineRead = tie.After-message Inv-loop3 μ-loop3 Inv-loop4 μ-loop4 Inv-loop2 μ-loop2 Inv-loop μ-loop
 
-again : (c : Again) → Loaded (placeOf c) (kindOf c) (headAgain c) (indexAgain c) (fieldsAgain c)
-again c =
-    let f = c .before .before .update-fields2 in
-    record {
-      there = refl;
-      large = c .before .before .before .before .before .before .before .before .before .if18 .left;
-      head = c .before .before .before .before .before .before .before .update-head3 .ensures .0;
-      index = c .before .before .before .before .before .index-of4 .ensures;
-      low = tested (c .before .before .before .before) .1;
-      known = tested (c .before .before .before .before) .0;
-      fields = f .ensures .0;
-      next = f .ensures .1 .0;
-      flag = f .ensures .1 .1;
-      ends = c .before .if24 .taken;
-    }
+abbrev baselineFound : BaselineRead → OtherFound
+baselineFound c = c .before .before
 
-moves-again : (c : Again) → placeOf c .at < fieldsAgain c .next
-moves-again c = loaded-less (placeOf c) (kindOf c) (headAgain c) (indexAgain c) (fieldsAgain c) (again c)
+baseline-entity : (c : BaselineRead) → c .message .given .0 .0 .0 < entityCount
+baseline-entity c =
+    let r = baselineFound c .before in
+    let p = otherPlace r in
+    baseline-known (body (inBlock (otherAt r))) (p .at) (p .inside) (p .baselines) (p .records) (present p) (p .rest) (p .going) (body-bytes (inBlock (otherAt r))) _
+    (other-context r) (r .read-message .result .message) (r .read-message .result .cursor) (r .read-message .ensures) (baselineFound c .if15 .taken) _ _ _
+    (c .message .given .1)
 
-abbrev Anew : Type 0
-Anew = tie.After-body6 Inv-loop3 μ-loop3 Inv-loop4 μ-loop4 Inv-loop2 μ-loop2 Inv-loop μ-loop
+abbrev BaselineIndexed : Type 0
+BaselineIndexed = tie.After-index-of Inv-loop3 μ-loop3 Inv-loop4 μ-loop4 Inv-loop2 μ-loop2 Inv-loop μ-loop
 
-again-step : (c : Anew)
-    → let r = c .before .before .before in
-    let w = c .before .put-update-behind in
-    Step (placeOf r) (updated (placeOf r) (kindOf r) (headAgain r) (indexAgain r) (fieldsAgain r) (again r) (placeOf r .at)) (fieldsAgain r .next) (w .last .1 .0) (w .result .size) (w .result .kept)
-again-step c =
-    let r = c .before .before .before in
-    let p = placeOf r in
-    let w = c .before .put-update-behind in
-    update-step p _ (fieldsAgain r .next) (indexAgain r) _ (fieldsAgain r .record) (again r .index)
-    (loaded-moved p (kindOf r) (headAgain r) (indexAgain r) (fieldsAgain r) (again r) (p .at) (omega arith) (omega (arith, moves-again r)))
-    true (λ e. to-load (r .before .before .before .before .before .before .before .before) .0) (λ on e. sent-always e) _ _ _ (w .ensures (contextOf (scene p)))
+baseline-index : (c : BaselineIndexed) → c .index-of .result < entityCount
+baseline-index c = omega (arith, c .index-of .ensures, baseline-entity (c .before .before))
 
--- ---- where the arms meet
+baseline-step : (c : BaselineIndexed)
+    → let m = c .before .before in
+    let r = baselineFound m .before in
+    let k = otherPlace r in
+    let b : Baseline = record { look = m .message .given .0 .1 .0; pose = m .message .given .0 .1 .1 .0 } in
+    Step k (held (set (k .baselines) (c .index-of .result) b) (k .records) (present k) (k .rest)) (r .read-message .result .cursor .at) (k .filled) (k .size) (k .kept)
+baseline-step c =
+    let m = c .before .before in
+    let f = baselineFound m in
+    let r = f .before in
+    let k = otherPlace r in
+    let s = body (inBlock (otherAt r)) in
+    let b : Baseline = record { look = m .message .given .0 .1 .0; pose = m .message .given .0 .1 .1 .0 } in
+    kept-step k _ (r .read-message .result .cursor .at) _
+    (subst (λ (i : ℕ). Moved s (scene k) (k .at) (held (set (k .baselines) i b) (k .records) (present k) (k .rest)) (r .read-message .result .cursor .at) (take (r .read-message .result .cursor .at - k .at) (drop (k .at) s))) (sym (c .index-of .ensures))
+    (baseline-moved s (k .at) (k .inside) (k .baselines) (k .records) (present k) (k .rest) (k .going) (body-bytes (inBlock (otherAt r))) _ (other-context r) (r .read-message .result .message) (r .read-message .result .cursor)
+    (r .read-message .ensures) (f .if15 .taken) (λ z. matched r .match .rest .0 .0 .1 (sym z)) (λ z. matched r .match .rest .1 (sym z)) (r .before .before .before .if12 .taken) _ _ _ (m .message .given .1)))
+    (λ on. refl)
 
-abbrev AtNext : Type 0
-AtNext = tie.At-match-came Inv-loop3 μ-loop3 Inv-loop4 μ-loop4 Inv-loop2 μ-loop2 Inv-loop μ-loop
+abbrev ServerinfoTaken : Type 0
+ServerinfoTaken = tie.After-rest2 Inv-loop3 μ-loop3 Inv-loop4 μ-loop4 Inv-loop2 μ-loop2 Inv-loop μ-loop
 
-abbrev next : AtNext → Scene
-next c = held (c .match .baselines) (c .match .records) (marked (c .match .since) (c .match .marks)) (c .match .rest)
+abbrev clearing : ServerinfoTaken → tie.After-cleared-scene Inv-loop3 μ-loop3 Inv-loop4 μ-loop4 Inv-loop2 μ-loop2 Inv-loop μ-loop
+clearing c = c .before .before .before
 
-abbrev Arrived : (c : AtNext) → Scene → ℕ → List ℕ → ℕ → ℕ → List ℕ → ℕ → Type 0
-Arrived c t to filled size kept marks since = Step (message (c .before .before)) t to filled size kept × Before marks since to (length (body (inBlock (c .before .before))))
+abbrev serverinfoFound : ServerinfoTaken → OtherFound
+serverinfoFound c = clearing c .before .before .before .before
 
-abbrev Here : AtNext → Type 0
-Here c = Arrived c (next c) (c .match .at) (c .match .body) (c .match .size) (c .match .kept) (c .match .marks) (c .match .since)
-
-arrived : (c : AtNext) (b : List Baseline) (e : List Record) (m : List ℕ) (n : ℕ) (x : Rest) (filled : List ℕ) (to size kept : ℕ) → c .match .baselines ≡ b → c .match .records ≡ e
-    → c .match .marks ≡ m → c .match .since ≡ n → c .match .rest ≡ x → c .match .body ≡ filled → c .match .at ≡ to → c .match .size ≡ size → c .match .kept ≡ kept
-    → Step (message (c .before .before)) (held b e (marked n m) x) to filled size kept → Before m n to (length (body (inBlock (c .before .before)))) → Here c
-arrived c b e m n x filled to size kept eb ee em en ex ef et es ek st w =
-    let q : _≡_ {A = Scene × ℕ × List ℕ × ℕ × ℕ × List ℕ × ℕ} (next c, c .match .at, c .match .body, c .match .size, c .match .kept, c .match .marks, c .match .since) (held b e (marked n m) x, to, filled, size, kept, m, n) = λ i. (held (eb i) (ee i) (marked (en i) (em i)) (ex i), et i, ef i, es i, ek i, em i, en i) in
-    subst (λ (y : Scene × ℕ × List ℕ × ℕ × ℕ × List ℕ × ℕ). Arrived c (y .0) (y .1) (y .2) (y .3) (y .4) (y .5) (y .6)) (sym q) (st, w)
-
--- Where no mark changes.
-stays : (c : AtNext) (b : List Baseline) (e : List Record) (x : Rest) (filled : List ℕ) (to size kept : ℕ)
-    → let k = message (c .before .before) in
-    c .match .baselines ≡ b → c .match .records ≡ e → c .match .marks ≡ k .marks → c .match .since ≡ k .since → c .match .rest ≡ x → c .match .body ≡ filled
-    → c .match .at ≡ to → c .match .size ≡ size → c .match .kept ≡ kept → Step k (held b e (present k) x) to filled size kept → Here c
-stays c b e x filled to size kept eb ee em en ex ef et es ek st =
-    let k = message (c .before .before) in
-    arrived c b e (k .marks) (k .since) x filled to size kept eb ee em en ex ef et es ek st (later k _ to filled size kept st)
-
--- Where all marks are taken away.
-cleared-marks : (c : AtNext) (b : List Baseline) (e : List Record) (x : Rest) (to : ℕ)
-    → let k = message (c .before .before) in
-    c .match .baselines ≡ b → c .match .records ≡ e → c .match .marks ≡ k .marks → c .match .since ≡ k .at → c .match .rest ≡ x → c .match .body ≡ k .filled
-    → c .match .at ≡ to → c .match .size ≡ k .size → c .match .kept ≡ k .kept
-    → Moved (body (inBlock (c .before .before))) (scene k) (k .at) (held b e (replicate entityCount false) x) to (take (to - k .at) (drop (k .at) (body (inBlock (c .before .before))))) → Here c
-cleared-marks c b e x to eb ee em en ex ef et es ek mv =
-    let k = message (c .before .before) in
-    let s = body (inBlock (c .before .before)) in
-    let moved = subst (λ (q : List Bool). Moved s (scene k) (k .at) (held b e q x) to (take (to - k .at) (drop (k .at) s))) (sym (marked-none (k .marks) (k .at) (k .reached .6 .marks-within))) mv in
-    let st = kept-step k _ to _ moved (λ on. refl) in
-    arrived c b e (k .marks) (k .at) x (k .filled) to (k .size) (k .kept) eb ee em en ex ef et es ek st
-    (before-timed (k .marks) (k .since) (k .at) (length s) (k .reached .6) to (omega (arith, less k _ to _ moved)) (omega (arith, k .inside)))
+serverinfo-read : (c : ServerinfoTaken)
+    → let r = serverinfoFound c .before in
+    let k = otherPlace r in
+    let t = clearing c .cleared-scene .result in
+    let to = r .read-message .result .cursor .at in
+    Moved (body (inBlock (otherAt r))) (scene k) (k .at) (held (t .baselines) (t .records) (replicate entityCount false) (t .rest)) to (take (to - k .at) (drop (k .at) (body (inBlock (otherAt r)))))
+serverinfo-read c =
+    let f = serverinfoFound c in
+    let r = f .before in
+    let k = otherPlace r in
+    let t = clearing c .cleared-scene .result in
+    serverinfo-moved (body (inBlock (otherAt r))) (k .at) (k .inside) (k .baselines) (k .records) (present k) (k .rest) (k .going) (body-bytes (inBlock (otherAt r))) _ (other-context r) (r .read-message .result .message) (r .read-message .result .cursor)
+    (r .read-message .ensures) (f .if15 .taken) (λ z. matched r .match .rest .0 .0 .1 (sym z)) (λ z. matched r .match .rest .1 (sym z)) (r .before .before .before .if12 .taken) _ _ (clearing c .before .before .message2 .given .1)
+    (cleared-present (t .baselines) (t .records) (t .present) (t .rest) _ (clearing c .cleared-scene .ensures))
 
 -- The messages but serverinfo and baseline, by their places in the list of messages.
 abbrev neither : List ℕ
 neither =
     0 ∷ 1 ∷ 2 ∷ 3 ∷ 4 ∷ 5 ∷ 6 ∷ 7 ∷ 8 ∷ 9 ∷ 11 ∷ 12 ∷ 13 ∷ 14 ∷ 15 ∷ 16 ∷ 17 ∷ 18 ∷ 19 ∷ 21 ∷ 22 ∷ 23 ∷ 24 ∷ 25 ∷ 26 ∷ 27 ∷ 28 ∷ 29 ∷ 30 ∷ 31 ∷ 32 ∷ 33 ∷ []
 
-came : (c : AtNext) → Here c
-came c =
-    let s = body (inBlock (c .before .before)) in
-    let k = message (c .before .before) in
-    let l = k .inside in
-    let g = k .going in
-    let h = body-bytes (inBlock (c .before .before)) in
-    let x = contextOf (scene k) in
+rest-step : (c : tie.After-apply-rest Inv-loop3 μ-loop3 Inv-loop4 μ-loop4 Inv-loop2 μ-loop2 Inv-loop μ-loop)
+    → let r = c .before .before .before in
+    let k = otherPlace r in
+    Step k (held (k .baselines) (k .records) (present k) (c .apply-rest .result)) (r .read-message .result .cursor .at) (k .filled) (k .size) (k .kept)
+rest-step c =
+    let f = c .before .before in
+    let r = f .before in
+    let k = otherPlace r in
+    kept-step k _ (r .read-message .result .cursor .at) _
+    (rest-moved (body (inBlock (otherAt r))) (k .at) (k .inside) (k .baselines) (k .records) (present k) (k .rest) (k .going) (body-bytes (inBlock (otherAt r))) _ (other-context r) (r .read-message .result .message) (r .read-message .result .cursor)
+    (r .read-message .ensures) (f .if15 .taken) (λ z. matched r .match .rest .0 .0 .1 (sym z)) (λ z. matched r .match .rest .1 (sym z)) (r .before .before .before .if12 .taken) neither (c .before .match2 .keys3) tt tt (λ z. matched r .match .rest .0 .1 (sym z))
+    (c .apply-rest .result) (c .apply-rest .ensures)) (λ on. refl)
+
+-- An update that is to be put anew was loaded again.
+abbrev ToLoad : Type 0
+ToLoad = tie.Then16 Inv-loop3 μ-loop3 Inv-loop4 μ-loop4 Inv-loop2 μ-loop2 Inv-loop μ-loop
+
+abbrev loadAt : ToLoad → AtMessage
+loadAt c = at (c .before .before .before)
+
+to-load : (c : ToLoad)
+    → (begun (blockOf (inBlock (loadAt c))) .args .on ≡ true) × (message (loadAt c) .at < end (inBlock (loadAt c))) × (message (loadAt c) .at + 18 ≤ length (input (blockOf (inBlock (loadAt c)))))
+to-load c =
+    let m = loadAt c in
+    let o = inBlock m in
+    before-stop (begun (blockOf o) .args .on) (length (input (blockOf o))) (end o) _ (message m .at) (turn (m .before .before .before .before) .before .before .loaded-until .ensures) (c .if16 .taken)
+
+abbrev HeadAgain : Type 0
+HeadAgain = tie.Then17 Inv-loop3 μ-loop3 Inv-loop4 μ-loop4 Inv-loop2 μ-loop2 Inv-loop μ-loop
+
+head-again : (c : HeadAgain)
+    → let m = loadAt (c .before .before .before) in
+    HeadLoaded (input (blockOf (inBlock m))) (message m .at) (c .before .before .load-head3 .result)
+head-again c = c .before .before .load-head3 .ensures (not-true _ (c .if17 .taken))
+
+abbrev Again : Type 0
+Again = tie.After-record3 Inv-loop3 μ-loop3 Inv-loop4 μ-loop4 Inv-loop2 μ-loop2 Inv-loop μ-loop
+
+abbrev againHead : Again → HeadAgain
+againHead c = c .before .before .before .before .before
+
+abbrev againAt : Again → AtMessage
+againAt c = loadAt (againHead c .before .before .before)
+
+abbrev headAgain : Again → LoadedHead
+headAgain c = againHead c .before .before .load-head3 .result
+
+abbrev fieldsAgain : Again → RecordAt
+fieldsAgain c = c .before .before .before .update-fields2 .result
+
+again : (c : Again) → Loaded (message (againAt c)) (headAgain c) (fieldsAgain c)
+again c =
+    record { head = head-again (againHead c); fields = c .before .before .before .update-fields2 .ensures (not-true _ (c .before .if18 .taken)) }
+
+moves-again : (c : Again) → message (againAt c) .at < fieldsAgain c .next
+moves-again c = loaded-less (message (againAt c)) (headAgain c) (fieldsAgain c) (again c)
+
+abbrev Anew : Type 0
+Anew = tie.After-body6 Inv-loop3 μ-loop3 Inv-loop4 μ-loop4 Inv-loop2 μ-loop2 Inv-loop μ-loop
+
+abbrev loadedAnew : Anew → Again
+loadedAnew c = c .before .before .before
+
+again-step : (c : Anew)
+    → let r = loadedAnew c in
+    let p = message (againAt r) in
+    let w = c .before .put-update-behind in
+    Step p (updated p (headAgain r) (fieldsAgain r) (again r) (p .at)) (fieldsAgain r .next) (w .last .1 .0) (w .result .size) (w .result .kept)
+again-step c =
+    let r = loadedAnew c in
+    let p = message (againAt r) in
+    let w = c .before .put-update-behind in
+    update-step p _ (fieldsAgain r .next) (headAgain r .index) _ (fieldsAgain r .record) (again r .head .index)
+    (loaded-moved p (headAgain r) (fieldsAgain r) (again r) (p .at) (omega arith) (omega (arith, moves-again r)))
+    true (λ e. to-load (againHead r .before .before .before) .0) (λ on e. sent-always e) _ _ _ (w .ensures (contextOf (scene p)))
+
+-- An update as it was sent.
+abbrev UpdateTaken : Type 0
+UpdateTaken = tie.After-read-update Inv-loop3 μ-loop3 Inv-loop4 μ-loop4 Inv-loop2 μ-loop2 Inv-loop μ-loop
+
+abbrev updateAt : UpdateTaken → AtMessage
+updateAt c = at (c .before .before .before .before)
+
+update-read : (c : UpdateTaken) → Parsed (message (updateAt c)) (updateValues (c .read-update .result .update)) (c .read-update .result .cursor)
+update-read c =
+    let p = message (updateAt c) in
+    update-parsed (body (inBlock (updateAt c))) (p .at) (p .inside) (p .baselines) (p .records) (present p) (p .rest) (p .going) (body-bytes (inBlock (updateAt c))) _ refl (c .before .before .if12 .left)
+    (c .read-update .result .update) (c .read-update .result .cursor) (c .read-update .ensures)
+
+-- Its entity is known.
+update-entity : (c : tie.Then19 Inv-loop3 μ-loop3 Inv-loop4 μ-loop4 Inv-loop2 μ-loop2 Inv-loop μ-loop) → c .before .read-update .result .update .entity .0 < entityCount
+update-entity c =
+    let r = c .before in
+    let p = message (updateAt r) in
+    update-known (body (inBlock (updateAt r))) (p .at) (p .inside) (p .baselines) (p .records) (present p) (p .rest) (p .going) (body-bytes (inBlock (updateAt r))) _ refl (r .before .before .if12 .left)
+    (r .read-update .result .update) (r .read-update .result .cursor) (r .read-update .ensures) (c .if19 .taken)
+
+abbrev UpdateIndexed : Type 0
+UpdateIndexed = tie.After-index-of2 Inv-loop3 μ-loop3 Inv-loop4 μ-loop4 Inv-loop2 μ-loop2 Inv-loop μ-loop
+
+update-index : (c : UpdateIndexed) → c .index-of2 .result < entityCount
+update-index c = omega (arith, c .index-of2 .ensures, update-entity (c .before))
+
+abbrev UpdateStored : Type 0
+UpdateStored = tie.After-record4 Inv-loop3 μ-loop3 Inv-loop4 μ-loop4 Inv-loop2 μ-loop2 Inv-loop μ-loop
+
+abbrev indexed : UpdateStored → UpdateIndexed
+indexed c = c .before .before .before .before .before
+
+abbrev sentAt : UpdateStored → AtMessage
+sentAt c = updateAt (indexed c .before .before)
+
+update-found : (c : UpdateStored)
+    → let r = indexed c .before .before in
+    let k = message (sentAt c) in
+    let i = indexed c .index-of2 .result in
+    let v = c .before .before .update-turn .result .record in
+    Moved (body (inBlock (sentAt c))) (scene k) (k .at) (held (k .baselines) (set (k .records) i v) (set (present k) i true) (k .rest)) (r .read-update .result .cursor .at)
+    (print (layoutIn (scene k)) (sendUpdate (baselineNumbers (getD (k .baselines) i noBaseline)) (number i ∷ recordValues v)))
+update-found c =
+    let r = indexed c .before .before in
+    let k = message (sentAt c) in
+    let t = c .before .before .update-turn in
+    update-moved (body (inBlock (sentAt c))) (k .at) (k .inside) (k .baselines) (k .records) (present k) (k .rest) (k .going) (body-bytes (inBlock (sentAt c))) _ refl (r .before .before .if12 .left) (r .read-update .result .update) (r .read-update .result .cursor)
+    (r .read-update .ensures) (indexed c .before .if19 .taken) (indexed c .index-of2 .result) (indexed c .index-of2 .ensures) (t .result .record) (t .ensures .0)
+
+update-less : (c : UpdateStored) → message (sentAt c) .at < indexed c .before .before .read-update .result .cursor .at
+update-less c = omega (arith, less (message (sentAt c)) _ (indexed c .before .before .read-update .result .cursor .at) _ (update-found c))
+
+sent-step : (c : UpdateStored)
+    → let r = indexed c .before .before in
+    let k = message (sentAt c) in
+    let i = indexed c .index-of2 .result in
+    let t = c .before .before .update-turn in
+    Step k (held (k .baselines) (set (k .records) i (t .result .record)) (marked (k .since) (set (k .marks) i (k .at))) (k .rest)) (r .read-update .result .cursor .at) (t .last .1 .0) (t .result .size) (t .result .kept)
+sent-step c =
+    let r = indexed c .before .before in
+    let k = message (sentAt c) in
+    let i = indexed c .index-of2 .result in
+    let t = c .before .before .update-turn in
+    let to = r .read-update .result .cursor .at in
+    update-step k _ to i _ (t .result .record) (indexed c .index-of2 .ensures)
+    (marked-moved k (set (k .records) i (t .result .record)) i to _ (update-found c) (k .at) (omega arith) (omega (arith, update-less c)) (omega (arith, k .inside)))
+    _ (λ e. e) (λ on e. sent-always (sym on ∙ e)) _ _ _ (t .ensures .1 (contextOf (scene k)))
+
+-- ---- where a message is refused
+
+abbrev AtRefused : Type 0
+AtRefused = tie.At-match-came Inv-loop3 μ-loop3 Inv-loop4 μ-loop4 Inv-loop2 μ-loop2 Inv-loop μ-loop
+
+-- Whichever reader refused it.
+refuse-read : (c : AtRefused) (r : WrittenAt) → Refuses (inBlock (at (c .before))) (c .match .wrong) (message (at (c .before)) .at) r → Answered (inBlock (at (c .before))) r
+refuse-read c =
+    let k = message (at (c .before)) in
     ⊎-elim
     (λ w.
-    let to = w .1 .result .cursor .at in
-    stays c (k .baselines) (k .records) (k .rest) _ to (w .6 .result .size) (w .6 .result .kept) (w .8) (w .9) (w .10) (w .11) (w .12) (w .13) (w .14) (w .15) (w .16)
-    (behind-step k _ to _
-    (sound-moved s (k .at) l (k .baselines) (k .records) (present k) (k .rest) g (w .1 .result .heard) (w .1 .result .cursor)
-    (sound-parsed (record { before = record { before = c .before; match = w .0 }; sound-at = w .1 })) (w .3 .left))
-    _ (λ e. e) (λ on e. sent-always (sym on ∙ e)) _ _ _ (w .6 .ensures x)))
+    refuse-parsed k _ (w .2 .result .cursor) (sound-parsed (record { before = record { before = record { before = c .before; match = w .0 }; body = w .1 }; sound-turn = w .2 })) (w .4 .left) _ (w .5))
+    (⊎-elim
+    (λ w. refuse-parsed k _ (w .1 .result .cursor) (time-parsed (record { before = record { before = c .before; match = w .0 }; time-at = w .1 })) (w .2 .left) _ (w .3))
     (⊎-elim
     (λ w.
-    cleared-marks c (k .baselines) (k .records) (w .5 .result) (w .2 .result .cursor .at) (w .6) (w .7) (w .8) (w .9) (w .10) (w .11) (w .12) (w .13) (w .14)
-    (time-moved s (k .at) l (k .baselines) (k .records) (present k) (k .rest) g h (w .2 .result .value) (w .5 .result) (w .2 .result .cursor)
-    (time-parsed (record { before = record { before = record { before = c .before; match = w .0 }; context = w .1 }; time-at = w .2 })) (w .4 .left) (w .5 .ensures)))
+    refuse-parsed k _ (w .2 .result .cursor) (client-parsed (record { before = record { before = record { before = c .before; match = w .0 }; body3 = w .1 }; client-turn = w .2 })) (w .4 .left) _ (w .5))
     (⊎-elim
     (λ w.
-    let r : tie.After-client-at Inv-loop3 μ-loop3 Inv-loop4 μ-loop4 Inv-loop2 μ-loop2 Inv-loop μ-loop = record { before = record { before = c .before; match = w .0 }; client-at = w .1 } in
-    stays c (k .baselines) (k .records) (w .9 .result) _ (w .1 .result .cursor .at) (w .7 .result .size) (w .7 .result .kept) (w .10) (w .11) (w .12) (w .13) (w .14) (w .15) (w .16) (w .17) (w .18)
-    (behind-step k _ (w .1 .result .cursor .at) _
-    (client-moved s (k .at) l (k .baselines) (k .records) (present k) (k .rest) g _ (w .1 .result .client) (w .9 .result) (w .1 .result .cursor) (client-parsed r) (w .3 .left) (client-here r .filled (w .3 .left)) (w .9 .ensures))
-    _ (λ e. and-true _ _ e .0) (λ on e. kept-client s (k .at) l (k .baselines) (k .records) (present k) (k .rest) g h (w .1 .result .client) (w .1 .result .cursor) (client-again r (and-false _ _ on e)) (w .3 .left)) _ _ _ (w .7 .ensures x)))
+    let p : tie.After-is-passed Inv-loop3 μ-loop3 Inv-loop4 μ-loop4 Inv-loop2 μ-loop2 Inv-loop μ-loop = record { before = record { before = record { before = c .before; match = w .0 }; if12 = w .1 }; is-passed = w .2 } in
+    refuse-parsed k _ (w .4 .result) (pass-parsed (record { before = record { before = p; if13 = w .3 }; pass-message = w .4 })) (w .5 .left) _ (w .6))
     (⊎-elim
     (λ w.
-    let b : Baseline = record { look = w .9 .given .0 .1 .0; pose = w .9 .given .0 .1 .1 .0 } in
-    let known = w .12 ∙ ap (λ (i : ℕ). set (k .baselines) i b) (w .11 .ensures) in
-    stays c (set (k .baselines) (w .9 .given .0 .0 .0) b) (k .records) (k .rest) (k .filled) (w .5 .result .cursor .at) (k .size) (k .kept) known (w .13) (w .14) (w .15) (w .16) (w .17) (w .18) (w .19) (w .20)
-    (kept-step k _ (w .5 .result .cursor .at) _
-    (baseline-moved s (k .at) l (k .baselines) (k .records) (present k) (k .rest) g h _ (w .4 .ensures _ _ _) (w .5 .result .message) (w .5 .result .cursor)
-    (w .5 .ensures) (w .7 .left) (λ z. w .0 .rest .0 .0 .1 (sym z)) (λ z. w .0 .rest .1 (sym z)) (w .1 .taken) _ _ _ (w .9 .given .1)) (λ on. refl)))
-    (⊎-elim
+    let p : tie.After-is-passed Inv-loop3 μ-loop3 Inv-loop4 μ-loop4 Inv-loop2 μ-loop2 Inv-loop μ-loop = record { before = record { before = record { before = c .before; match = w .0 }; if12 = w .1 }; is-passed = w .2 } in
+    refuse-parsed k _ (w .4 .result .cursor) (other-read (record { before = record { before = p; if13 = w .3 }; read-message = w .4 })) (w .5 .left) _ (w .6))
     (λ w.
-    let t = w .11 .result in
-    cleared-marks c (t .baselines) (t .records) (t .rest) (w .5 .result .cursor .at) (w .15) (w .16) (w .17) (w .18) (w .19) (w .20) (w .21) (w .22) (w .23)
-    (serverinfo-moved s (k .at) l (k .baselines) (k .records) (present k) (k .rest) g h _ (w .4 .ensures _ _ _) (w .5 .result .message) (w .5 .result .cursor)
-    (w .5 .ensures) (w .7 .left) (λ z. w .0 .rest .0 .0 .1 (sym z)) (λ z. w .0 .rest .1 (sym z)) (w .1 .taken) _ _ (w .9 .given .1) (cleared-present (t .baselines) (t .records) (t .present) (t .rest) _ (w .11 .ensures))))
-    (⊎-elim
-    (λ w.
-    stays c (k .baselines) (k .records) (w .9 .result) (k .filled) (w .5 .result .cursor .at) (k .size) (k .kept) (w .10) (w .11) (w .12) (w .13) (w .14) (w .15) (w .16) (w .17) (w .18)
-    (kept-step k _ (w .5 .result .cursor .at) _
-    (rest-moved s (k .at) l (k .baselines) (k .records) (present k) (k .rest) g h _ (w .4 .ensures _ _ _) (w .5 .result .message) (w .5 .result .cursor)
-    (w .5 .ensures) (w .7 .left) (λ z. w .0 .rest .0 .0 .1 (sym z)) (λ z. w .0 .rest .1 (sym z)) (w .1 .taken) neither (w .8 .keys3) tt tt (λ z. w .0 .rest .0 .1 (sym z)) (w .9 .result) (w .9 .ensures)) (λ on. refl)))
-    (λ w.
-    let i = w .8 .result in
-    let to = w .3 .result .cursor .at in
-    let moved = update-moved s (k .at) l (k .baselines) (k .records) (present k) (k .rest) g h _ refl (w .1 .left) (w .3 .result .update) (w .3 .result .cursor) (w .3 .ensures) (w .5 .left) i (w .8 .ensures) (w .10 .result) (w .10 .ensures) in
-    let here : k .at ≤ to = omega (arith, less k _ to _ moved) in
-    arrived c (k .baselines) (set (k .records) i (w .10 .result)) (set (k .marks) i (k .at)) (k .since) (k .rest) _ to (w .12 .result .size) (w .12 .result .kept) (w .14) (w .15) (w .16) (w .17) (w .18) (w .19) (w .20) (w .21) (w .22)
-    (update-step k _ to i _ (w .10 .result) (w .8 .ensures) (marked-moved k (set (k .records) i (w .10 .result)) i to _ moved (k .at) (omega arith) here (omega (arith, l))) _ (λ e. e) (λ on e. sent-always (sym on ∙ e)) _ _ _ (w .12 .ensures x))
-    (marked-later k (set (k .records) i (w .10 .result)) i to _ moved (k .at) (omega arith) here (omega (arith, l)))))))))
+    refuse-parsed k _ (w .3 .result .cursor) (update-read (record { before = record { before = record { before = record { before = c .before; match = w .0 }; if12 = w .1 }; if16 = w .2 }; read-update = w .3 })) (w .4 .left) _ (w .5))))))
     (c .match .came)
 
 -- ---- where a block is at its end
 
--- Input that was kept to the end is copied.
-abbrev Copied : Type 0
-Copied = tie.After-put-copy Inv-loop3 μ-loop3 Inv-loop4 μ-loop4 Inv-loop2 μ-loop2 Inv-loop μ-loop
-
-abbrev left : Copied → tie.At-loop2 Inv-loop3 μ-loop3 Inv-loop4 μ-loop4 Inv-loop2 μ-loop2 Inv-loop μ-loop
-left c = c .before .before .before
-
-abbrev sizeOf : Copied → ℕ
-sizeOf c = c .put-copy .result
-
-abbrev filledOf : Copied → List ℕ
-filledOf c = c .put-copy .last .1 .0
-
-fits : (c : Copied) → (sizeOf c ≤ blockLimit) × (length (filledOf c) ≡ bodySize)
-fits c =
-    let k = left c .loop2 in
-    let s = body (left c .before .before) in
-    (room (begun (blockOf (left c .before .before)) .args .on) (c .put-copy .ensures .2), c .put-copy .ensures .1 ∙ k .inv .2)
-  where
-    room : (on : Bool) → sizeOf c ≡ left c .loop2 .size + length (cond on (take (left c .loop2 .at - left c .loop2 .kept) (drop (left c .loop2 .kept) (body (left c .before .before)))) []) → sizeOf c ≤ blockLimit
-    room true e = omega (arith, e, left c .loop2 .inv .1, length-take (left c .loop2 .at - left c .loop2 .kept) (drop (left c .loop2 .kept) (body (left c .before .before))), length-drop (left c .loop2 .kept) (body (left c .before .before)))
-    room false e = omega (arith, e, left c .loop2 .inv .1)
-
-body-size : (c : Copied) → length (take (sizeOf c) (filledOf c)) ≡ sizeOf c
-body-size c = length-take-le (sizeOf c) (filledOf c) (omega (arith, fits c))
-
 abbrev AtEnd : Type 0
-AtEnd = tie.After-block-size Inv-loop3 μ-loop3 Inv-loop4 μ-loop4 Inv-loop2 μ-loop2 Inv-loop μ-loop
+AtEnd = tie.After-end-block Inv-loop3 μ-loop3 Inv-loop4 μ-loop4 Inv-loop2 μ-loop2 Inv-loop μ-loop
 
-abbrev copying : AtEnd → Copied
-copying c = c .before .before
+abbrev left : AtEnd → AtTurn
+left c = c .before .before .before .before
 
 abbrev closing : AtEnd → Opened
-closing c = left (copying c) .before .before
+closing c = openedAt (left c)
 
 abbrev after : AtEnd → Scene
-after c = let k = left (copying c) .loop2 in held (k .baselines) (k .records) (marked (k .since) (k .marks)) (k .rest)
+after c = let k = left c .loop2 in held (k .baselines) (k .records) (marked (k .since) (k .marks)) (k .rest)
 
 abbrev formed : AtEnd → List ℕ
-formed c = blockBytes (begun (blockOf (closing c)) .args .on) (angles (closing c)) (take (sizeOf (copying c)) (filledOf (copying c)))
-
-formed-size : (c : AtEnd) → length (formed c) ≡ c .block-size .result
-formed-size c =
-    let h = closing c .before .before .before .read-head .result in
+formed c =
+    let k = left c .loop2 in
     let on = begun (blockOf (closing c)) .args .on in
-    block-length on (h .angle0) (h .angle1) (h .angle2) (take (sizeOf (copying c)) (filledOf (copying c)))
-    ∙ ap (λ (n : ℕ). cond on (16 + n) 0) (body-size (copying c)) ∙ sym (c .block-size .ensures)
+    blockBytes on (angles (closing c)) (soFar on (k .body) (k .size) (body (closing c)) (k .kept) (k .at))
+
+-- How many bytes it has.
+abbrev sizeOf : AtEnd → ℕ
+sizeOf c = c .end-block .result .size
 
 ended : (c : AtEnd)
     → let o = closing c in
@@ -995,91 +1107,63 @@ ended : (c : AtEnd)
     let l = blockOf o .before .loop in
     whole (blockOf o)
     ≡ closed (sceneOf (a .given)) (input (blockOf o)) (a .on) (stores (blockOf o)) (a .room) (a .base) (l .blocks) (a .most - l .blocks - 1) (l .start) (end o) (angles o) (l .written) (l .out)
-    (left (copying c) .loop2 .messages) (after c) (formed c)
+    (left c .loop2 .messages) (after c) (formed c)
 ended c =
     let o = closing c in
     let a = begun (blockOf o) .args in
     let l = blockOf o .before .loop in
-    let k = left (copying c) .loop2 in
+    let k = left c .loop2 in
     opened o ∙ k .inv .4
     ∙ on-end (sceneOf (a .given)) (input (blockOf o)) (a .on) (stores (blockOf o)) (a .room) (a .base) (l .blocks) _ (l .start) (end o) (angles o) (l .written) (l .out) (bytes (blockOf o)) (within o)
-    (k .messages) (after c) (soFar (a .on) (k .body) (k .size) (body o) (k .kept) (k .at)) (k .at) (copying c .before .before .loop2-test .left)
-    ∙ ap (λ (x : List ℕ). closed (sceneOf (a .given)) (input (blockOf o)) (a .on) (stores (blockOf o)) (a .room) (a .base) (l .blocks) (a .most - l .blocks - 1) (l .start) (end o) (angles o) (l .written) (l .out) (k .messages) (after c) (blockBytes (a .on) (angles o) x)) (sym (copying c .put-copy .ensures .0))
-
--- The room is short for it.
-short : (c : tie.Then26 Inv-loop3 μ-loop3 Inv-loop4 μ-loop4 Inv-loop2 μ-loop2 Inv-loop μ-loop) (r : WrittenAt) → Refuses (closing (c .before)) 12 (c .before .block-size .result) r → Answered (closing (c .before)) r
-short c =
-    let e = c .before in
-    let o = closing e in
-    let a = begun (blockOf o) .args in
-    let l = blockOf o .before .loop in
-    refuse o 12 (e .block-size .result)
-    (sym (ended e
-    ∙ closed-short (sceneOf (a .given)) (input (blockOf o)) (a .on) (stores (blockOf o)) (a .room) (a .base) (l .blocks) _ (l .start) (end o) (angles o) (l .written) (l .out)
-    (left (copying e) .loop2 .messages) (after e) (formed e) (e .block-size .result) (formed-size e) (c .if26 .taken)))
-
--- There is room for it.
-goes-on : (c : tie.Else26 Inv-loop3 μ-loop3 Inv-loop4 μ-loop4 Inv-loop2 μ-loop2 Inv-loop μ-loop)
-    → let e = c .before in
-    let o = closing e in
-    let a = begun (blockOf o) .args in
-    let l = blockOf o .before .loop in
-    let w = l .written + e .block-size .result in
-    whole (blockOf o)
-    ≡ wroteOf (sceneOf (a .given)) (length (input (blockOf o))) (stores (blockOf o)) (a .base) (l .blocks + 1) (left (copying e) .loop2 .messages) w (put (stores (blockOf o)) (l .out) (a .base + l .written) (formed e))
-    (runOf (a .on) (a .most - l .blocks - 1) (a .room - w) (after e) (drop (end o) (input (blockOf o))))
-goes-on c =
-    let e = c .before in
-    let o = closing e in
-    let a = begun (blockOf o) .args in
-    let l = blockOf o .before .loop in
-    ended e
-    ∙ closed-fits (sceneOf (a .given)) (input (blockOf o)) (a .on) (stores (blockOf o)) (a .room) (a .base) (l .blocks) _ (l .start) (end o) (angles o) (l .written) (l .out)
-    (left (copying e) .loop2 .messages) (after e) (formed e) (e .block-size .result) (formed-size e) (c .if26 .left)
-
-room-there : (c : tie.Else26 Inv-loop3 μ-loop3 Inv-loop4 μ-loop4 Inv-loop2 μ-loop2 Inv-loop μ-loop)
-    → let a = begun (blockOf (closing (c .before))) .args in
-    let l = blockOf (closing (c .before)) .before .loop in
-    (a .on && stored (a .out .now) (a .base) (a .room)) ≡ true → a .base + l .written + 16 + sizeOf (copying (c .before)) ≤ length (l .out)
-room-there c e =
-    let s = begun (blockOf (closing (c .before))) in
-    let a = s .args in
-    let l = blockOf (closing (c .before)) .before .loop in
-    let b = and-true (a .on) (stored (a .out .now) (a .base) (a .room)) e in
-    let n : c .before .block-size .result ≡ 16 + sizeOf (copying (c .before)) = c .before .block-size .ensures ∙ ap (λ (x : Bool). cond x (16 + sizeOf (copying (c .before))) 0) (b .0) in
-    omega (arith, n, c .if26 .left, leb-true (a .room) (length (a .out .now) - a .base) (b .1), l .inv .5, l .inv .6, s .pre .2)
+    (k .messages) (after c) (soFar (a .on) (k .body) (k .size) (body o) (k .kept) (k .at)) (k .at) (c .before .before .before .loop2-test .left)
 
 -- What the room holds then.
-abbrev AtStored : Type 0
-AtStored = tie.After-store-block Inv-loop3 μ-loop3 Inv-loop4 μ-loop4 Inv-loop2 μ-loop2 Inv-loop μ-loop
+abbrev Stored : AtEnd → Bool → List ℕ → Type 0
+Stored c short x =
+    let o = closing c in
+    x ≡ put (not short && stores (blockOf o)) (blockOf o .before .loop .out) (begun (blockOf o) .args .base + blockOf o .before .loop .written) (formed c)
 
-abbrev ending : AtStored → AtEnd
-ending c = c .before .before .before .before
+room-then : (c : AtEnd) (x : List ℕ) → Stored c (c .end-block .result .short) x → (short : Bool) → c .end-block .result .short ≡ short → Stored c short x
+room-then c x e short q =
+    let o = closing c in
+    e ∙ ap (λ (b : Bool). put (not b && stores (blockOf o)) (blockOf o .before .loop .out) (begun (blockOf o) .args .base + blockOf o .before .loop .written) (formed c)) q
 
-abbrev Stored : AtStored → List ℕ → Type 0
-Stored c x =
-    let o = closing (ending c) in
-    let a = begun (blockOf o) .args in
-    let l = blockOf o .before .loop in
-    x ≡ put (a .on && stores (blockOf o)) (l .out) (a .base + l .written) (leWrite 4 (sizeOf (copying (ending c))) ++ (print angleLayout (angles o) ++ take (sizeOf (copying (ending c))) (filledOf (copying (ending c)))))
-
-stored-there : (c : AtStored) (x : List ℕ) → Stored c x
-    → let o = closing (ending c) in
-    let l = blockOf o .before .loop in
-    put (stores (blockOf o)) (l .out) (begun (blockOf o) .args .base + l .written) (formed (ending c)) ≡ x
-stored-there c x e =
-    let o = closing (ending c) in
-    let a = begun (blockOf o) .args in
-    let l = blockOf o .before .loop in
-    sym (e ∙ put-block-there (a .on) (stores (blockOf o)) (l .out) (a .base + l .written) (angles o) (take (sizeOf (copying (ending c))) (filledOf (copying (ending c)))) (sizeOf (copying (ending c))) (body-size (copying (ending c))))
-
-kept-length : (c : AtStored) (x : List ℕ) → Stored c x → length x ≡ length (blockOf (closing (ending c)) .before .loop .out)
+kept-length : (c : AtEnd) (x : List ℕ) → Stored c (c .end-block .result .short) x → length x ≡ length (blockOf (closing c) .before .loop .out)
 kept-length c x e =
-    let o = closing (ending c) in
+    let o = closing c in
+    ap length e
+    ∙ put-length (not (c .end-block .result .short) && stores (blockOf o)) (blockOf o .before .loop .out) (begun (blockOf o) .args .base + blockOf o .before .loop .written) (formed c)
+
+-- The room is short for it.
+short : (c : AtEnd) → c .end-block .result .short ≡ true → (r : WrittenAt) → Refuses (closing c) 12 (sizeOf c) r → Answered (closing c) r
+short c q =
+    let o = closing c in
     let a = begun (blockOf o) .args in
     let l = blockOf o .before .loop in
-    ap length e
-    ∙ put-length (a .on && stores (blockOf o)) (l .out) (a .base + l .written) (leWrite 4 (sizeOf (copying (ending c))) ++ (print angleLayout (angles o) ++ take (sizeOf (copying (ending c))) (filledOf (copying (ending c)))))
+    refuse o 12 (sizeOf c)
+    (sym (ended c
+    ∙ closed-short (sceneOf (a .given)) (input (blockOf o)) (a .on) (stores (blockOf o)) (a .room) (a .base) (l .blocks) _ (l .start) (end o) (angles o) (l .written) (l .out)
+    (left c .loop2 .messages) (after c) (formed c) (sizeOf c) (sym (c .end-block .ensures .0)) (ltb-true _ _ (sym (c .end-block .ensures .1 .0) ∙ q))))
+
+-- There is room for it.
+enough : (c : AtEnd) → c .end-block .result .short ≡ false → sizeOf c ≤ begun (blockOf (closing c)) .args .room - blockOf (closing c) .before .loop .written
+enough c q = ltb-false _ _ (sym (c .end-block .ensures .1 .0) ∙ q)
+
+goes-on : (c : AtEnd) → c .end-block .result .short ≡ false
+    → let o = closing c in
+    let a = begun (blockOf o) .args in
+    let l = blockOf o .before .loop in
+    let w = l .written + sizeOf c in
+    whole (blockOf o)
+    ≡ wroteOf (sceneOf (a .given)) (length (input (blockOf o))) (stores (blockOf o)) (a .base) (l .blocks + 1) (left c .loop2 .messages) w (put (stores (blockOf o)) (l .out) (a .base + l .written) (formed c))
+    (runOf (a .on) (a .most - l .blocks - 1) (a .room - w) (after c) (drop (end o) (input (blockOf o))))
+goes-on c q =
+    let o = closing c in
+    let a = begun (blockOf o) .args in
+    let l = blockOf o .before .loop in
+    ended c
+    ∙ closed-fits (sceneOf (a .given)) (input (blockOf o)) (a .on) (stores (blockOf o)) (a .room) (a .base) (l .blocks) _ (l .start) (end o) (angles o) (l .written) (l .out)
+    (left c .loop2 .messages) (after c) (formed c) (sizeOf c) (sym (c .end-block .ensures .0)) (enough c q)
 
 -- ---- what is asked on the way, in the order of the code
 
@@ -1123,12 +1207,15 @@ add-end c = omega (arith, c .before .before .read-head .ensures .1 .0 (c .before
 slice-aggregate-s : tie.Need-slice-aggregate-s Inv-loop3 μ-loop3 Inv-loop4 μ-loop4 Inv-loop2 μ-loop2 Inv-loop μ-loop
 slice-aggregate-s c = sym (body-long c)
 
-quick-until-requires : tie.Need-quick-until-requires Inv-loop3 μ-loop3 Inv-loop4 μ-loop4 Inv-loop2 μ-loop2 Inv-loop μ-loop
-quick-until-requires c κs = search needs
+loaded-until-requires : tie.Need-loaded-until-requires Inv-loop3 μ-loop3 Inv-loop4 μ-loop4 Inv-loop2 μ-loop2 Inv-loop μ-loop
+loaded-until-requires c κs = search needs
+
+loaded-until-requires-2 : tie.Need-loaded-until-requires-2 Inv-loop3 μ-loop3 Inv-loop4 μ-loop4 Inv-loop2 μ-loop2 Inv-loop μ-loop
+loaded-until-requires-2 c κs = search needs
 
 loop2-holds : tie.Need-loop2-holds Inv-loop3 μ-loop3 Inv-loop4 μ-loop4 Inv-loop2 μ-loop2 Inv-loop μ-loop
 loop2-holds c =
-    let o = c .before in
+    let o = c .before .before in
     let l = blockOf o .before .loop in (
       omega (arith, body-long o, l .inv .2),
       omega (arith, body-long o, o .before .before .before .read-head .ensures .1 .1 (o .before .before .if2 .left)),
@@ -1148,12 +1235,12 @@ refused-in-requires : tie.Need-refused-in-requires Inv-loop3 μ-loop3 Inv-loop4 
 refused-in-requires c κs = search needs
 
 same-length : tie.Need-same-length Inv-loop3 μ-loop3 Inv-loop4 μ-loop4 Inv-loop2 μ-loop2 Inv-loop μ-loop
-same-length c = c .before .before .before .before .before .before .before .before .before .before .before .loop .inv .6
+same-length c = blockOf (openedAt (c .before .before .before)) .before .loop .inv .6
 
 returns : tie.Need-returns Inv-loop3 μ-loop3 Inv-loop4 μ-loop4 Inv-loop2 μ-loop2 Inv-loop μ-loop
 returns c =
     let m = c .before .before in
-    let o = m .before .before .before in
+    let o = openedAt (m .before) in
     let k = m .before .loop2 in
     refuse-message o (k .messages) (held (k .baselines) (k .records) (marked (k .since) (k .marks)) (k .rest)) (k .body) (k .at) (k .size) (k .kept) (k .marks) (k .since) (k .inv) (m .loop2-test .taken) 11
     (ended-refused (body o) (k .at) (m .loop2-test .taken) (k .baselines) (k .records) (marked (k .since) (k .marks)) (k .rest) (c .before .if3 .taken)) (c .refused-in .result) (c .refused-in .ensures)
@@ -1163,232 +1250,169 @@ loop3-holds c =
     let i = c .before .before .loop2 .inv in
     ((i .0, i .1, i .2, i .3, refl, i .5, i .6), omega arith)
 
-shared-slice-read-k : tie.Need-shared-slice-read-k Inv-loop3 μ-loop3 Inv-loop4 μ-loop4 Inv-loop2 μ-loop2 Inv-loop μ-loop
-shared-slice-read-k c = omega (arith, to-write (c .before))
-
-add-update-head : tie.Need-add-update-head Inv-loop3 μ-loop3 Inv-loop4 μ-loop4 Inv-loop2 μ-loop2 Inv-loop μ-loop
-add-update-head c = place-fits (writePlace (c .before .before))
-
-update-head-requires : tie.Need-update-head-requires Inv-loop3 μ-loop3 Inv-loop4 μ-loop4 Inv-loop2 μ-loop2 Inv-loop μ-loop
-update-head-requires c κs = omega (arith, to-write (c .before .before))
-
-index-of-requires : tie.Need-index-of-requires Inv-loop3 μ-loop3 Inv-loop4 μ-loop4 Inv-loop2 μ-loop2 Inv-loop μ-loop
-index-of-requires c κs = search needs
+load-head-requires : tie.Need-load-head-requires Inv-loop3 μ-loop3 Inv-loop4 μ-loop4 Inv-loop2 μ-loop2 Inv-loop μ-loop
+load-head-requires c κs = omega (arith, to-write c .2)
 
 mul-b : tie.Need-mul-b Inv-loop3 μ-loop3 Inv-loop4 μ-loop4 Inv-loop2 μ-loop2 Inv-loop μ-loop
-mul-b c = at-16 (c .before .before .if5 .left)
+mul-b c = at-16 (head-written c .0 .known)
 
 array-copy-out-b : tie.Need-array-copy-out-b Inv-loop3 μ-loop3 Inv-loop4 μ-loop4 Inv-loop2 μ-loop2 Inv-loop μ-loop
-array-copy-out-b c = c .before .before .if5 .left
+array-copy-out-b c = head-written c .0 .known
 
 needed-fields-requires : tie.Need-needed-fields-requires Inv-loop3 μ-loop3 Inv-loop4 μ-loop4 Inv-loop2 μ-loop2 Inv-loop μ-loop
-needed-fields-requires c κs = omega (arith, c .before .before .before .before .before .before .update-head .ensures .1, to-write (c .before .before .before .before .before .before .before .before .before))
+needed-fields-requires c κs = omega (arith, head-written (c .before) .0 .near, to-write (c .before .before .before .before) .2)
 
 mul-records : tie.Need-mul-records Inv-loop3 μ-loop3 Inv-loop4 μ-loop4 Inv-loop2 μ-loop2 Inv-loop μ-loop
-mul-records c = at-18 (found-written c .known)
+mul-records c = at-18 (found-written c .head .known)
 
 array-set-from-records : tie.Need-array-set-from-records Inv-loop3 μ-loop3 Inv-loop4 μ-loop4 Inv-loop2 μ-loop2 Inv-loop μ-loop
-array-set-from-records c = found-written c .known
+array-set-from-records c = found-written c .head .known
 
 mul-marks : tie.Need-mul-marks Inv-loop3 μ-loop3 Inv-loop4 μ-loop4 Inv-loop2 μ-loop2 Inv-loop μ-loop
-mul-marks c = at-8 (found-written c .known)
+mul-marks c = at-8 (found-written c .head .known)
 
 array-write-marks : tie.Need-array-write-marks Inv-loop3 μ-loop3 Inv-loop4 μ-loop4 Inv-loop2 μ-loop2 Inv-loop μ-loop
-array-write-marks c = found-written c .known
+array-write-marks c = found-written c .head .known
 
 add-messages : tie.Need-add-messages Inv-loop3 μ-loop3 Inv-loop4 μ-loop4 Inv-loop2 μ-loop2 Inv-loop μ-loop
 add-messages c = counts (writePlace (writing c))
 
 loop3-less : tie.Need-loop3-less Inv-loop3 μ-loop3 Inv-loop4 μ-loop4 Inv-loop2 μ-loop2 Inv-loop μ-loop
-loop3-less c = less (writePlace (writing c)) _ (fieldsWritten c .next) _ (at-quick (writePlace (writing c)) (kindWritten c) (headWritten c) (indexWritten c) (fieldsWritten c) (found-written c))
+loop3-less c = less (writePlace (writing c)) _ (fieldsWritten c .next) _ (loaded-read (writePlace (writing c)) (headWritten c) (fieldsWritten c) (found-written c))
 
 loop3-again : tie.Need-loop3-again Inv-loop3 μ-loop3 Inv-loop4 μ-loop4 Inv-loop2 μ-loop2 Inv-loop μ-loop
 loop3-again c =
     let i = writing c .before .loop3 .inv in
     let p = writePlace (writing c) in
-    let q = loaded-on p (kindWritten c) (headWritten c) (indexWritten c) (fieldsWritten c) (found-written c) (λ on. (c .before .before .if8 .left, c .before .before .before .before .before .if7 .left)) in
-    ((q .0, q .1, q .2, q .3, i .0 .4 ∙ q .4, q .5, q .6), omega (arith, i .1, loaded-less p (kindWritten c) (headWritten c) (indexWritten c) (fieldsWritten c) (found-written c)))
+    let q = loaded-on p (headWritten c) (fieldsWritten c) (found-written c) (λ on. (c .before .before .needed-fields .ensures .1 (c .before .if5 .left), head-written (headed c) .1)) in
+    ((q .0, q .1, q .2, q .3, i .0 .4 ∙ q .4, q .5, q .6), omega (arith, i .1, loaded-less p (headWritten c) (fieldsWritten c) (found-written c)))
 
 loop4-holds : tie.Need-loop4-holds Inv-loop3 μ-loop3 Inv-loop4 μ-loop4 Inv-loop2 μ-loop2 Inv-loop μ-loop
 loop4-holds c =
     let i = c .before .loop3 .inv .0 in
     ((i .0, i .1, i .2, i .3, refl, i .5, i .6), omega arith)
 
-shared-slice-read-k-2 : tie.Need-shared-slice-read-k-2 Inv-loop3 μ-loop3 Inv-loop4 μ-loop4 Inv-loop2 μ-loop2 Inv-loop μ-loop
-shared-slice-read-k-2 c = omega (arith, to-read (c .before) .2)
-
-add-update-head-2 : tie.Need-add-update-head-2 Inv-loop3 μ-loop3 Inv-loop4 μ-loop4 Inv-loop2 μ-loop2 Inv-loop μ-loop
-add-update-head-2 c = place-fits (readPlace (c .before .before))
-
-update-head-requires-2 : tie.Need-update-head-requires-2 Inv-loop3 μ-loop3 Inv-loop4 μ-loop4 Inv-loop2 μ-loop2 Inv-loop μ-loop
-update-head-requires-2 c κs = omega (arith, to-read (c .before .before) .2)
-
-index-of-requires-2 : tie.Need-index-of-requires-2 Inv-loop3 μ-loop3 Inv-loop4 μ-loop4 Inv-loop2 μ-loop2 Inv-loop μ-loop
-index-of-requires-2 c κs = search needs
+load-head-requires-2 : tie.Need-load-head-requires-2 Inv-loop3 μ-loop3 Inv-loop4 μ-loop4 Inv-loop2 μ-loop2 Inv-loop μ-loop
+load-head-requires-2 c κs = omega (arith, to-read c .2)
 
 mul-b-2 : tie.Need-mul-b-2 Inv-loop3 μ-loop3 Inv-loop4 μ-loop4 Inv-loop2 μ-loop2 Inv-loop μ-loop
-mul-b-2 c = at-16 (c .before .if11 .left)
+mul-b-2 c = at-16 (c .before .load-head2 .ensures (c .if6 .left) .known)
 
 array-copy-out-b-2 : tie.Need-array-copy-out-b-2 Inv-loop3 μ-loop3 Inv-loop4 μ-loop4 Inv-loop2 μ-loop2 Inv-loop μ-loop
-array-copy-out-b-2 c = c .before .if11 .left
+array-copy-out-b-2 c = c .before .load-head2 .ensures (c .if6 .left) .known
 
 update-fields-requires : tie.Need-update-fields-requires Inv-loop3 μ-loop3 Inv-loop4 μ-loop4 Inv-loop2 μ-loop2 Inv-loop μ-loop
-update-fields-requires c κs = omega (arith, c .before .before .before .before .before .update-head2 .ensures .1, to-read (c .before .before .before .before .before .before .before .before) .2)
+update-fields-requires c κs = omega (arith, c .before .before .load-head2 .ensures (c .before .if6 .left) .near, to-read (c .before .before .before) .2)
 
 mul-records-2 : tie.Need-mul-records-2 Inv-loop3 μ-loop3 Inv-loop4 μ-loop4 Inv-loop2 μ-loop2 Inv-loop μ-loop
-mul-records-2 c = at-18 (found-read c .known)
+mul-records-2 c = at-18 (found-read c .head .known)
 
 array-set-from-records-2 : tie.Need-array-set-from-records-2 Inv-loop3 μ-loop3 Inv-loop4 μ-loop4 Inv-loop2 μ-loop2 Inv-loop μ-loop
-array-set-from-records-2 c = found-read c .known
+array-set-from-records-2 c = found-read c .head .known
 
 mul-marks-2 : tie.Need-mul-marks-2 Inv-loop3 μ-loop3 Inv-loop4 μ-loop4 Inv-loop2 μ-loop2 Inv-loop μ-loop
-mul-marks-2 c = at-8 (found-read c .known)
+mul-marks-2 c = at-8 (found-read c .head .known)
 
 array-write-marks-2 : tie.Need-array-write-marks-2 Inv-loop3 μ-loop3 Inv-loop4 μ-loop4 Inv-loop2 μ-loop2 Inv-loop μ-loop
-array-write-marks-2 c = found-read c .known
+array-write-marks-2 c = found-read c .head .known
 
 add-messages-2 : tie.Need-add-messages-2 Inv-loop3 μ-loop3 Inv-loop4 μ-loop4 Inv-loop2 μ-loop2 Inv-loop μ-loop
 add-messages-2 c = counts (readPlace (reading c))
 
 loop4-less : tie.Need-loop4-less Inv-loop3 μ-loop3 Inv-loop4 μ-loop4 Inv-loop2 μ-loop2 Inv-loop μ-loop
-loop4-less c = less (readPlace (reading c)) _ (fieldsRead c .next) _ (at-quick (readPlace (reading c)) (kindRead c) (headRead c) (indexRead c) (fieldsRead c) (found-read c))
+loop4-less c = less (readPlace (reading c)) _ (fieldsRead c .next) _ (loaded-read (readPlace (reading c)) (headRead c) (fieldsRead c) (found-read c))
 
 loop4-again : tie.Need-loop4-again Inv-loop3 μ-loop3 Inv-loop4 μ-loop4 Inv-loop2 μ-loop2 Inv-loop μ-loop
 loop4-again c =
     let i = reading c .before .loop4 .inv in
     let p = readPlace (reading c) in
     let off = to-read (reading c) .0 in
-    let q = loaded-on p (kindRead c) (headRead c) (indexRead c) (fieldsRead c) (found-read c) (λ on. absurd (true≢false (sym on ∙ off))) in
-    ((q .0, q .1, q .2, q .3, i .0 .4 ∙ q .4, q .5, q .6), omega (arith, i .1, loaded-less p (kindRead c) (headRead c) (indexRead c) (fieldsRead c) (found-read c)))
+    let q = loaded-on p (headRead c) (fieldsRead c) (found-read c) (λ on. absurd (true≢false (sym on ∙ off))) in
+    ((q .0, q .1, q .2, q .3, i .0 .4 ∙ q .4, q .5, q .6), omega (arith, i .1, loaded-less p (headRead c) (fieldsRead c) (found-read c)))
 
 loop2-less : tie.Need-loop2-less Inv-loop3 μ-loop3 Inv-loop4 μ-loop4 Inv-loop2 μ-loop2 Inv-loop μ-loop
-loop2-less c = omega (arith, c .if14 .taken, c .before .before .before .before .before .before .loop2-test .taken)
+loop2-less c = omega (arith, c .if8 .taken, c .before .before .before .before .before .before .loop2-test .taken)
 
 loop2-again : tie.Need-loop2-again Inv-loop3 μ-loop3 Inv-loop4 μ-loop4 Inv-loop2 μ-loop2 Inv-loop μ-loop
 loop2-again c = reached-read (c .before .before)
 
-shared-slice-read-k-3 : tie.Need-shared-slice-read-k-3 Inv-loop3 μ-loop3 Inv-loop4 μ-loop4 Inv-loop2 μ-loop2 Inv-loop μ-loop
-shared-slice-read-k-3 c = search needs
+shared-slice-read-k : tie.Need-shared-slice-read-k Inv-loop3 μ-loop3 Inv-loop4 μ-loop4 Inv-loop2 μ-loop2 Inv-loop μ-loop
+shared-slice-read-k c = search needs
 
-add-t109 : tie.Need-add-t109 Inv-loop3 μ-loop3 Inv-loop4 μ-loop4 Inv-loop2 μ-loop2 Inv-loop μ-loop
-add-t109 c = place-fits (message (c .before))
-
-sound-at-requires : tie.Need-sound-at-requires Inv-loop3 μ-loop3 Inv-loop4 μ-loop4 Inv-loop2 μ-loop2 Inv-loop μ-loop
-sound-at-requires c κs = search needs
-
-refused-in-requires-2 : tie.Need-refused-in-requires-2 Inv-loop3 μ-loop3 Inv-loop4 μ-loop4 Inv-loop2 μ-loop2 Inv-loop μ-loop
-refused-in-requires-2 c κs = search needs
-
-same-length-2 : tie.Need-same-length-2 Inv-loop3 μ-loop3 Inv-loop4 μ-loop4 Inv-loop2 μ-loop2 Inv-loop μ-loop
-same-length-2 c = blockOf (inBlock (c .before .before .before .before .before .before)) .before .loop .inv .6
-
-returns-2 : tie.Need-returns-2 Inv-loop3 μ-loop3 Inv-loop4 μ-loop4 Inv-loop2 μ-loop2 Inv-loop μ-loop
-returns-2 c =
-    refuse-parsed (message (c .before .before .before .before .before .before)) _ (c .before .before .before .sound-at .result .cursor) (sound-parsed (c .before .before .before)) (c .before .if15 .taken) (c .refused-in2 .result) (c .refused-in2 .ensures)
-
-slice-aggregate-put-sound-behind : tie.Need-slice-aggregate-put-sound-behind Inv-loop3 μ-loop3 Inv-loop4 μ-loop4 Inv-loop2 μ-loop2 Inv-loop μ-loop
-slice-aggregate-put-sound-behind c = sym (message (c .before .before .before .before .before .before .before) .reached .2)
-
-put-sound-behind-requires : tie.Need-put-sound-behind-requires Inv-loop3 μ-loop3 Inv-loop4 μ-loop4 Inv-loop2 μ-loop2 Inv-loop μ-loop
-put-sound-behind-requires c κs = room-for (message (c .before .before .before .before .before .before .before)) 16 room-16
+add-t81 : tie.Need-add-t81 Inv-loop3 μ-loop3 Inv-loop4 μ-loop4 Inv-loop2 μ-loop2 Inv-loop μ-loop
+add-t81 c = place-fits (message (c .before))
 
 context-requires : tie.Need-context-requires Inv-loop3 μ-loop3 Inv-loop4 μ-loop4 Inv-loop2 μ-loop2 Inv-loop μ-loop
 context-requires c κs = search needs
 
+add-messages-3 : tie.Need-add-messages-3 Inv-loop3 μ-loop3 Inv-loop4 μ-loop4 Inv-loop2 μ-loop2 Inv-loop μ-loop
+add-messages-3 c = counts (message (at c))
+
+slice-aggregate-sound-turn : tie.Need-slice-aggregate-sound-turn Inv-loop3 μ-loop3 Inv-loop4 μ-loop4 Inv-loop2 μ-loop2 Inv-loop μ-loop
+slice-aggregate-sound-turn c = sym (message (at (c .before .before)) .reached .2)
+
+sound-turn-requires : tie.Need-sound-turn-requires Inv-loop3 μ-loop3 Inv-loop4 μ-loop4 Inv-loop2 μ-loop2 Inv-loop μ-loop
+sound-turn-requires c κs = let k = message (at (c .before .before)) in let r = room-for k 16 room-16 in (r .0, k .inside, r .2)
+
+loop2-less-2 : tie.Need-loop2-less-2 Inv-loop3 μ-loop3 Inv-loop4 μ-loop4 Inv-loop2 μ-loop2 Inv-loop μ-loop
+loop2-less-2 c = turn-less (soundAt (c .before .before)) _ (c .before .before .sound-turn .result .cursor .at) _ _ _ (sound-step c)
+
+loop2-again-2 : tie.Need-loop2-again-2 Inv-loop3 μ-loop3 Inv-loop4 μ-loop4 Inv-loop2 μ-loop2 Inv-loop μ-loop
+loop2-again-2 c = turned-still (soundAt (c .before .before)) _ (c .before .before .sound-turn .result .cursor .at) _ _ _ (sound-step c)
+
 time-at-requires : tie.Need-time-at-requires Inv-loop3 μ-loop3 Inv-loop4 μ-loop4 Inv-loop2 μ-loop2 Inv-loop μ-loop
 time-at-requires c κs = search needs
-
-refused-in-requires-3 : tie.Need-refused-in-requires-3 Inv-loop3 μ-loop3 Inv-loop4 μ-loop4 Inv-loop2 μ-loop2 Inv-loop μ-loop
-refused-in-requires-3 c κs = search needs
-
-same-length-3 : tie.Need-same-length-3 Inv-loop3 μ-loop3 Inv-loop4 μ-loop4 Inv-loop2 μ-loop2 Inv-loop μ-loop
-same-length-3 c = blockOf (inBlock (c .before .before .before .before .before .before .before)) .before .loop .inv .6
-
-returns-3 : tie.Need-returns-3 Inv-loop3 μ-loop3 Inv-loop4 μ-loop4 Inv-loop2 μ-loop2 Inv-loop μ-loop
-returns-3 c =
-    refuse-parsed (message (c .before .before .before .before .before .before .before)) _ (c .before .before .before .time-at .result .cursor) (time-parsed (c .before .before .before)) (c .before .if16 .taken) (c .refused-in3 .result) (c .refused-in3 .ensures)
 
 with-time-requires : tie.Need-with-time-requires Inv-loop3 μ-loop3 Inv-loop4 μ-loop4 Inv-loop2 μ-loop2 Inv-loop μ-loop
 with-time-requires c κs = search needs
 
-add-client-at : tie.Need-add-client-at Inv-loop3 μ-loop3 Inv-loop4 μ-loop4 Inv-loop2 μ-loop2 Inv-loop μ-loop
-add-client-at c = place-fits (message (c .before .before))
+loop2-less-3 : tie.Need-loop2-less-3 Inv-loop3 μ-loop3 Inv-loop4 μ-loop4 Inv-loop2 μ-loop2 Inv-loop μ-loop
+loop2-less-3 c =
+    let r = c .before .before in
+    let k = message (timeAt r) in
+    unmarked-less (timeAt r) (k .baselines) (k .records) (c .with-time .result) (r .time-at .result .cursor .at) (time-read c)
 
-client-at-requires : tie.Need-client-at-requires Inv-loop3 μ-loop3 Inv-loop4 μ-loop4 Inv-loop2 μ-loop2 Inv-loop μ-loop
-client-at-requires c κs = search needs
+loop2-again-3 : tie.Need-loop2-again-3 Inv-loop3 μ-loop3 Inv-loop4 μ-loop4 Inv-loop2 μ-loop2 Inv-loop μ-loop
+loop2-again-3 c =
+    let r = c .before .before in
+    let k = message (timeAt r) in
+    unmarked (timeAt r) (k .baselines) (k .records) (c .with-time .result) (r .time-at .result .cursor .at) (time-read c)
 
-refused-in-requires-4 : tie.Need-refused-in-requires-4 Inv-loop3 μ-loop3 Inv-loop4 μ-loop4 Inv-loop2 μ-loop2 Inv-loop μ-loop
-refused-in-requires-4 c κs = search needs
+slice-aggregate-client-turn : tie.Need-slice-aggregate-client-turn Inv-loop3 μ-loop3 Inv-loop4 μ-loop4 Inv-loop2 μ-loop2 Inv-loop μ-loop
+slice-aggregate-client-turn c = sym (message (at (c .before .before)) .reached .2)
 
-same-length-4 : tie.Need-same-length-4 Inv-loop3 μ-loop3 Inv-loop4 μ-loop4 Inv-loop2 μ-loop2 Inv-loop μ-loop
-same-length-4 c = blockOf (inBlock (c .before .before .before .before .before .before)) .before .loop .inv .6
-
-returns-4 : tie.Need-returns-4 Inv-loop3 μ-loop3 Inv-loop4 μ-loop4 Inv-loop2 μ-loop2 Inv-loop μ-loop
-returns-4 c =
-    refuse-parsed (message (c .before .before .before .before .before .before)) _ (c .before .before .before .client-at .result .cursor) (client-parsed (c .before .before .before)) (c .before .if17 .taken) (c .refused-in4 .result) (c .refused-in4 .ensures)
-
-slice-aggregate-put-client-behind : tie.Need-slice-aggregate-put-client-behind Inv-loop3 μ-loop3 Inv-loop4 μ-loop4 Inv-loop2 μ-loop2 Inv-loop μ-loop
-slice-aggregate-put-client-behind c = sym (message (c .before .before .before .before .before .before .before .before) .reached .2)
-
-put-client-behind-requires : tie.Need-put-client-behind-requires Inv-loop3 μ-loop3 Inv-loop4 μ-loop4 Inv-loop2 μ-loop2 Inv-loop μ-loop
-put-client-behind-requires c κs = room-for (message (c .before .before .before .before .before .before .before .before)) 32 room-32
+client-turn-requires : tie.Need-client-turn-requires Inv-loop3 μ-loop3 Inv-loop4 μ-loop4 Inv-loop2 μ-loop2 Inv-loop μ-loop
+client-turn-requires c κs = let k = message (at (c .before .before)) in let r = room-for k 32 room-32 in (r .0, k .inside, r .2)
 
 with-client-requires : tie.Need-with-client-requires Inv-loop3 μ-loop3 Inv-loop4 μ-loop4 Inv-loop2 μ-loop2 Inv-loop μ-loop
 with-client-requires c κs = search needs
 
-context-requires-2 : tie.Need-context-requires-2 Inv-loop3 μ-loop3 Inv-loop4 μ-loop4 Inv-loop2 μ-loop2 Inv-loop μ-loop
-context-requires-2 c κs = search needs
+loop2-less-4 : tie.Need-loop2-less-4 Inv-loop3 μ-loop3 Inv-loop4 μ-loop4 Inv-loop2 μ-loop2 Inv-loop μ-loop
+loop2-less-4 c = let r = c .before .before .before in turn-less (clientDataAt r) _ (r .client-turn .result .cursor .at) _ _ _ (client-step c)
+
+loop2-again-4 : tie.Need-loop2-again-4 Inv-loop3 μ-loop3 Inv-loop4 μ-loop4 Inv-loop2 μ-loop2 Inv-loop μ-loop
+loop2-again-4 c = let r = c .before .before .before in turned-still (clientDataAt r) _ (r .client-turn .result .cursor .at) _ _ _ (client-step c)
 
 is-passed-requires : tie.Need-is-passed-requires Inv-loop3 μ-loop3 Inv-loop4 μ-loop4 Inv-loop2 μ-loop2 Inv-loop μ-loop
 is-passed-requires c κs = search needs
 
 pass-message-requires : tie.Need-pass-message-requires Inv-loop3 μ-loop3 Inv-loop4 μ-loop4 Inv-loop2 μ-loop2 Inv-loop μ-loop
-pass-message-requires c κs = passes (c .before)
+pass-message-requires c κs = passes c
 
-refused-in-requires-5 : tie.Need-refused-in-requires-5 Inv-loop3 μ-loop3 Inv-loop4 μ-loop4 Inv-loop2 μ-loop2 Inv-loop μ-loop
-refused-in-requires-5 c κs = search needs
+loop2-less-5 : tie.Need-loop2-less-5 Inv-loop3 μ-loop3 Inv-loop4 μ-loop4 Inv-loop2 μ-loop2 Inv-loop μ-loop
+loop2-less-5 c = turn-less (passedAt (c .before)) _ (c .before .pass-message .result .at) _ _ _ (pass-step c)
 
-same-length-5 : tie.Need-same-length-5 Inv-loop3 μ-loop3 Inv-loop4 μ-loop4 Inv-loop2 μ-loop2 Inv-loop μ-loop
-same-length-5 c = blockOf (inBlock (c .before .before .before .before .before .before .before .before .before)) .before .loop .inv .6
-
-returns-5 : tie.Need-returns-5 Inv-loop3 μ-loop3 Inv-loop4 μ-loop4 Inv-loop2 μ-loop2 Inv-loop μ-loop
-returns-5 c =
-    let r = c .before .before in
-    refuse-parsed (passedAt r) _ (r .pass-message .result) (pass-parsed r) (c .before .if20 .taken) (c .refused-in5 .result) (c .refused-in5 .ensures)
-
-add-messages-3 : tie.Need-add-messages-3 Inv-loop3 μ-loop3 Inv-loop4 μ-loop4 Inv-loop2 μ-loop2 Inv-loop μ-loop
-add-messages-3 c = counts (passedAt (c .before))
-
-loop2-less-2 : tie.Need-loop2-less-2 Inv-loop3 μ-loop3 Inv-loop4 μ-loop4 Inv-loop2 μ-loop2 Inv-loop μ-loop
-loop2-less-2 c = omega (arith, step-less (passedAt (c .before)) _ (c .before .pass-message .result .at) _ _ _ (pass-step c), ahead (c .before .before .before .before .before .before .before .before))
-
-loop2-again-2 : tie.Need-loop2-again-2 Inv-loop3 μ-loop3 Inv-loop4 μ-loop4 Inv-loop2 μ-loop2 Inv-loop μ-loop
-loop2-again-2 c =
-    let p = passedAt (c .before) in
-    let q = step-on p _ (c .before .pass-message .result .at) _ _ _ (pass-step c) _ _ (later p _ (c .before .pass-message .result .at) _ _ _ (pass-step c)) in
-    (q .0, q .1, q .2, q .3, p .reached .4 ∙ q .4, q .5, q .6)
-
-context-requires-3 : tie.Need-context-requires-3 Inv-loop3 μ-loop3 Inv-loop4 μ-loop4 Inv-loop2 μ-loop2 Inv-loop μ-loop
-context-requires-3 c κs = search needs
+loop2-again-5 : tie.Need-loop2-again-5 Inv-loop3 μ-loop3 Inv-loop4 μ-loop4 Inv-loop2 μ-loop2 Inv-loop μ-loop
+loop2-again-5 c = turned-still (passedAt (c .before)) _ (c .before .pass-message .result .at) _ _ _ (pass-step c)
 
 read-message-requires : tie.Need-read-message-requires Inv-loop3 μ-loop3 Inv-loop4 μ-loop4 Inv-loop2 μ-loop2 Inv-loop μ-loop
 read-message-requires c κs = search needs
 
-refused-in-requires-6 : tie.Need-refused-in-requires-6 Inv-loop3 μ-loop3 Inv-loop4 μ-loop4 Inv-loop2 μ-loop2 Inv-loop μ-loop
-refused-in-requires-6 c κs = search needs
-
-same-length-6 : tie.Need-same-length-6 Inv-loop3 μ-loop3 Inv-loop4 μ-loop4 Inv-loop2 μ-loop2 Inv-loop μ-loop
-same-length-6 c = blockOf (inBlock (c .before .before .before .before .before .before .before .before .before .before)) .before .loop .inv .6
-
-returns-6 : tie.Need-returns-6 Inv-loop3 μ-loop3 Inv-loop4 μ-loop4 Inv-loop2 μ-loop2 Inv-loop μ-loop
-returns-6 c =
-    refuse-parsed (message (c .before .before .before .before .before .before .before .before .before .before)) _ (c .before .before .before .read-message .result .cursor) (other-read (c .before .before .before)) (c .before .if21 .taken) (c .refused-in6 .result) (c .refused-in6 .ensures)
-
 enum-known-message : tie.Need-enum-known-message Inv-loop3 μ-loop3 Inv-loop4 μ-loop4 Inv-loop2 μ-loop2 Inv-loop μ-loop
 enum-known-message c = search needs
 
-index-of-requires-3 : tie.Need-index-of-requires-3 Inv-loop3 μ-loop3 Inv-loop4 μ-loop4 Inv-loop2 μ-loop2 Inv-loop μ-loop
-index-of-requires-3 c κs = search needs
+index-of-requires : tie.Need-index-of-requires Inv-loop3 μ-loop3 Inv-loop4 μ-loop4 Inv-loop2 μ-loop2 Inv-loop μ-loop
+index-of-requires c κs = search needs
 
 mul-baselines : tie.Need-mul-baselines Inv-loop3 μ-loop3 Inv-loop4 μ-loop4 Inv-loop2 μ-loop2 Inv-loop μ-loop
 mul-baselines c = at-16 (baseline-index c)
@@ -1404,72 +1428,77 @@ cleared-scene-requires c κs = search needs
 
 apply-rest-requires : tie.Need-apply-rest-requires Inv-loop3 μ-loop3 Inv-loop4 μ-loop4 Inv-loop2 μ-loop2 Inv-loop μ-loop
 unfolding sceneWith
-apply-rest-requires c κs = omega (arith, range→ (scene (message (c .before .before .before .before .before .before .before .before .before .before))) (message (c .before .before .before .before .before .before .before .before .before .before) .reached .3) .statics)
+apply-rest-requires c κs = let p = otherPlace (c .before .before) in omega (arith, range→ (scene p) (p .reached .3) .statics)
 
-add-update-head-3 : tie.Need-add-update-head-3 Inv-loop3 μ-loop3 Inv-loop4 μ-loop4 Inv-loop2 μ-loop2 Inv-loop μ-loop
-add-update-head-3 c = place-fits (message (c .before .before .before .before))
+loop2-less-6 : tie.Need-loop2-less-6 Inv-loop3 μ-loop3 Inv-loop4 μ-loop4 Inv-loop2 μ-loop2 Inv-loop μ-loop
+loop2-less-6 c = let r = baselineFound (c .before .before) .before in turn-less (otherAt r) _ (r .read-message .result .cursor .at) _ _ _ (baseline-step c)
 
-update-head-requires-3 : tie.Need-update-head-requires-3 Inv-loop3 μ-loop3 Inv-loop4 μ-loop4 Inv-loop2 μ-loop2 Inv-loop μ-loop
-update-head-requires-3 c κs = omega (arith, to-load c)
+loop2-again-6 : tie.Need-loop2-again-6 Inv-loop3 μ-loop3 Inv-loop4 μ-loop4 Inv-loop2 μ-loop2 Inv-loop μ-loop
+loop2-again-6 c = let r = baselineFound (c .before .before) .before in turned-still (otherAt r) _ (r .read-message .result .cursor .at) _ _ _ (baseline-step c)
 
-index-of-requires-4 : tie.Need-index-of-requires-4 Inv-loop3 μ-loop3 Inv-loop4 μ-loop4 Inv-loop2 μ-loop2 Inv-loop μ-loop
-index-of-requires-4 c κs = search needs
+loop2-less-7 : tie.Need-loop2-less-7 Inv-loop3 μ-loop3 Inv-loop4 μ-loop4 Inv-loop2 μ-loop2 Inv-loop μ-loop
+loop2-less-7 c =
+    let r = serverinfoFound c .before in
+    let t = clearing c .cleared-scene .result in
+    unmarked-less (otherAt r) (t .baselines) (t .records) (t .rest) (r .read-message .result .cursor .at) (serverinfo-read c)
+
+loop2-again-7 : tie.Need-loop2-again-7 Inv-loop3 μ-loop3 Inv-loop4 μ-loop4 Inv-loop2 μ-loop2 Inv-loop μ-loop
+loop2-again-7 c =
+    let r = serverinfoFound c .before in
+    let t = clearing c .cleared-scene .result in
+    unmarked (otherAt r) (t .baselines) (t .records) (t .rest) (r .read-message .result .cursor .at) (serverinfo-read c)
+
+loop2-less-8 : tie.Need-loop2-less-8 Inv-loop3 μ-loop3 Inv-loop4 μ-loop4 Inv-loop2 μ-loop2 Inv-loop μ-loop
+loop2-less-8 c = let r = c .before .before .before in turn-less (otherAt r) _ (r .read-message .result .cursor .at) _ _ _ (rest-step c)
+
+loop2-again-8 : tie.Need-loop2-again-8 Inv-loop3 μ-loop3 Inv-loop4 μ-loop4 Inv-loop2 μ-loop2 Inv-loop μ-loop
+loop2-again-8 c = let r = c .before .before .before in turned-still (otherAt r) _ (r .read-message .result .cursor .at) _ _ _ (rest-step c)
+
+load-head-requires-3 : tie.Need-load-head-requires-3 Inv-loop3 μ-loop3 Inv-loop4 μ-loop4 Inv-loop2 μ-loop2 Inv-loop μ-loop
+load-head-requires-3 c κs = omega (arith, to-load c .2)
 
 mul-b-3 : tie.Need-mul-b-3 Inv-loop3 μ-loop3 Inv-loop4 μ-loop4 Inv-loop2 μ-loop2 Inv-loop μ-loop
-mul-b-3 c = at-16 (tested c .0)
+mul-b-3 c = at-16 (head-again c .known)
 
 array-copy-out-b-3 : tie.Need-array-copy-out-b-3 Inv-loop3 μ-loop3 Inv-loop4 μ-loop4 Inv-loop2 μ-loop2 Inv-loop μ-loop
-array-copy-out-b-3 c = tested c .0
+array-copy-out-b-3 c = head-again c .known
 
 update-fields-requires-2 : tie.Need-update-fields-requires-2 Inv-loop3 μ-loop3 Inv-loop4 μ-loop4 Inv-loop2 μ-loop2 Inv-loop μ-loop
-update-fields-requires-2 c κs = omega (arith, c .before .before .before .before .update-head3 .ensures .1, to-load (c .before .before .before .before .before))
+update-fields-requires-2 c κs = omega (arith, head-again (c .before) .near, to-load (c .before .before .before .before) .2)
 
 slice-aggregate-put-update-behind : tie.Need-slice-aggregate-put-update-behind Inv-loop3 μ-loop3 Inv-loop4 μ-loop4 Inv-loop2 μ-loop2 Inv-loop μ-loop
-slice-aggregate-put-update-behind c = sym (placeOf (c .before) .reached .2)
+slice-aggregate-put-update-behind c = sym (message (againAt (c .before)) .reached .2)
 
 put-update-behind-requires : tie.Need-put-update-behind-requires Inv-loop3 μ-loop3 Inv-loop4 μ-loop4 Inv-loop2 μ-loop2 Inv-loop μ-loop
-put-update-behind-requires c κs = room-for (placeOf (c .before)) 24 room-24
+put-update-behind-requires c κs = room-for (message (againAt (c .before))) 24 room-24
 
 mul-records-3 : tie.Need-mul-records-3 Inv-loop3 μ-loop3 Inv-loop4 μ-loop4 Inv-loop2 μ-loop2 Inv-loop μ-loop
-mul-records-3 c = at-18 (tested (c .before .before .before .before .before .before .before) .0)
+mul-records-3 c = at-18 (again (loadedAnew c) .head .known)
 
 array-set-from-records-3 : tie.Need-array-set-from-records-3 Inv-loop3 μ-loop3 Inv-loop4 μ-loop4 Inv-loop2 μ-loop2 Inv-loop μ-loop
-array-set-from-records-3 c = tested (c .before .before .before .before .before .before .before) .0
+array-set-from-records-3 c = again (loadedAnew c) .head .known
 
 mul-marks-3 : tie.Need-mul-marks-3 Inv-loop3 μ-loop3 Inv-loop4 μ-loop4 Inv-loop2 μ-loop2 Inv-loop μ-loop
-mul-marks-3 c = at-8 (tested (c .before .before .before .before .before .before .before) .0)
+mul-marks-3 c = at-8 (again (loadedAnew c) .head .known)
 
 array-write-marks-3 : tie.Need-array-write-marks-3 Inv-loop3 μ-loop3 Inv-loop4 μ-loop4 Inv-loop2 μ-loop2 Inv-loop μ-loop
-array-write-marks-3 c = tested (c .before .before .before .before .before .before .before) .0
+array-write-marks-3 c = again (loadedAnew c) .head .known
 
-add-messages-4 : tie.Need-add-messages-4 Inv-loop3 μ-loop3 Inv-loop4 μ-loop4 Inv-loop2 μ-loop2 Inv-loop μ-loop
-add-messages-4 c = counts (placeOf (c .before .before .before))
+loop2-less-9 : tie.Need-loop2-less-9 Inv-loop3 μ-loop3 Inv-loop4 μ-loop4 Inv-loop2 μ-loop2 Inv-loop μ-loop
+loop2-less-9 c = let r = loadedAnew c in turn-less (againAt r) _ (fieldsAgain r .next) _ _ _ (again-step c)
 
-loop2-less-3 : tie.Need-loop2-less-3 Inv-loop3 μ-loop3 Inv-loop4 μ-loop4 Inv-loop2 μ-loop2 Inv-loop μ-loop
-loop2-less-3 c = omega (arith, step-less (placeOf (c .before .before .before)) _ (fieldsAgain (c .before .before .before) .next) _ _ _ (again-step c), ahead (c .before .before .before .before .before .before .before .before .before .before .before .before .before .before .before))
-
-loop2-again-3 : tie.Need-loop2-again-3 Inv-loop3 μ-loop3 Inv-loop4 μ-loop4 Inv-loop2 μ-loop2 Inv-loop μ-loop
-loop2-again-3 c =
-    let p = placeOf (c .before .before .before) in
-    let r = c .before .before .before in
-    let q = step-on p _ (fieldsAgain r .next) _ _ _ (again-step c) _ _ (loaded-later p (kindOf r) (headAgain r) (indexAgain r) (fieldsAgain r) (again r) (p .at) (omega arith) (omega (arith, moves-again r))) in
-    (q .0, q .1, q .2, q .3, p .reached .4 ∙ q .4, q .5, q .6)
+loop2-again-9 : tie.Need-loop2-again-9 Inv-loop3 μ-loop3 Inv-loop4 μ-loop4 Inv-loop2 μ-loop2 Inv-loop μ-loop
+loop2-again-9 c =
+    let r = loadedAnew c in
+    let p = message (againAt r) in
+    turned (againAt r) _ (fieldsAgain r .next) _ _ _ (again-step c) _ _
+    (loaded-later p (headAgain r) (fieldsAgain r) (again r) (p .at) (omega arith) (omega (arith, moves-again r)))
 
 read-update-requires : tie.Need-read-update-requires Inv-loop3 μ-loop3 Inv-loop4 μ-loop4 Inv-loop2 μ-loop2 Inv-loop μ-loop
 read-update-requires c κs = search needs
 
-refused-in-requires-7 : tie.Need-refused-in-requires-7 Inv-loop3 μ-loop3 Inv-loop4 μ-loop4 Inv-loop2 μ-loop2 Inv-loop μ-loop
-refused-in-requires-7 c κs = search needs
-
-same-length-7 : tie.Need-same-length-7 Inv-loop3 μ-loop3 Inv-loop4 μ-loop4 Inv-loop2 μ-loop2 Inv-loop μ-loop
-same-length-7 c = blockOf (inBlock (c .before .before .before .before .before .before .before .before)) .before .loop .inv .6
-
-returns-7 : tie.Need-returns-7 Inv-loop3 μ-loop3 Inv-loop4 μ-loop4 Inv-loop2 μ-loop2 Inv-loop μ-loop
-returns-7 c =
-    refuse-parsed (message (c .before .before .before .before .before .before .before .before)) _ (c .before .before .before .read-update .result .cursor) (update-read (c .before .before .before)) (c .before .if25 .taken) (c .refused-in7 .result) (c .refused-in7 .ensures)
-
-index-of-requires-5 : tie.Need-index-of-requires-5 Inv-loop3 μ-loop3 Inv-loop4 μ-loop4 Inv-loop2 μ-loop2 Inv-loop μ-loop
-index-of-requires-5 c κs = search needs
+index-of-requires-2 : tie.Need-index-of-requires-2 Inv-loop3 μ-loop3 Inv-loop4 μ-loop4 Inv-loop2 μ-loop2 Inv-loop μ-loop
+index-of-requires-2 c κs = search needs
 
 mul-b-4 : tie.Need-mul-b-4 Inv-loop3 μ-loop3 Inv-loop4 μ-loop4 Inv-loop2 μ-loop2 Inv-loop μ-loop
 mul-b-4 c = at-16 (update-index c)
@@ -1477,100 +1506,99 @@ mul-b-4 c = at-16 (update-index c)
 array-copy-out-b-4 : tie.Need-array-copy-out-b-4 Inv-loop3 μ-loop3 Inv-loop4 μ-loop4 Inv-loop2 μ-loop2 Inv-loop μ-loop
 array-copy-out-b-4 c = update-index c
 
-fill-update-requires : tie.Need-fill-update-requires Inv-loop3 μ-loop3 Inv-loop4 μ-loop4 Inv-loop2 μ-loop2 Inv-loop μ-loop
-fill-update-requires c κs = search needs
+slice-aggregate-update-turn : tie.Need-slice-aggregate-update-turn Inv-loop3 μ-loop3 Inv-loop4 μ-loop4 Inv-loop2 μ-loop2 Inv-loop μ-loop
+slice-aggregate-update-turn c = sym (message (updateAt (c .before .before .before .before)) .reached .2)
 
-slice-aggregate-put-update-behind-2 : tie.Need-slice-aggregate-put-update-behind-2 Inv-loop3 μ-loop3 Inv-loop4 μ-loop4 Inv-loop2 μ-loop2 Inv-loop μ-loop
-slice-aggregate-put-update-behind-2 c = sym (message (c .before .before .before .before .before .before .before .before .before .before .before .before .before) .reached .2)
-
-put-update-behind-requires-2 : tie.Need-put-update-behind-requires-2 Inv-loop3 μ-loop3 Inv-loop4 μ-loop4 Inv-loop2 μ-loop2 Inv-loop μ-loop
-put-update-behind-requires-2 c κs = room-for (message (c .before .before .before .before .before .before .before .before .before .before .before .before .before)) 24 room-24
+update-turn-requires : tie.Need-update-turn-requires Inv-loop3 μ-loop3 Inv-loop4 μ-loop4 Inv-loop2 μ-loop2 Inv-loop μ-loop
+update-turn-requires c κs = room-for (message (updateAt (c .before .before .before .before))) 24 room-24
 
 mul-records-4 : tie.Need-mul-records-4 Inv-loop3 μ-loop3 Inv-loop4 μ-loop4 Inv-loop2 μ-loop2 Inv-loop μ-loop
-mul-records-4 c = at-18 (update-index (c .before .before .before .before .before))
+mul-records-4 c = at-18 (update-index (indexed c))
 
 array-set-from-records-4 : tie.Need-array-set-from-records-4 Inv-loop3 μ-loop3 Inv-loop4 μ-loop4 Inv-loop2 μ-loop2 Inv-loop μ-loop
-array-set-from-records-4 c = update-index (c .before .before .before .before .before)
+array-set-from-records-4 c = update-index (indexed c)
 
 mul-marks-4 : tie.Need-mul-marks-4 Inv-loop3 μ-loop3 Inv-loop4 μ-loop4 Inv-loop2 μ-loop2 Inv-loop μ-loop
-mul-marks-4 c = at-8 (update-index (c .before .before .before .before .before))
+mul-marks-4 c = at-8 (update-index (indexed c))
 
 array-write-marks-4 : tie.Need-array-write-marks-4 Inv-loop3 μ-loop3 Inv-loop4 μ-loop4 Inv-loop2 μ-loop2 Inv-loop μ-loop
-array-write-marks-4 c = update-index (c .before .before .before .before .before)
+array-write-marks-4 c = update-index (indexed c)
 
-add-messages-5 : tie.Need-add-messages-5 Inv-loop3 μ-loop3 Inv-loop4 μ-loop4 Inv-loop2 μ-loop2 Inv-loop μ-loop
-add-messages-5 c = counts (message (c .before .before))
+loop2-less-10 : tie.Need-loop2-less-10 Inv-loop3 μ-loop3 Inv-loop4 μ-loop4 Inv-loop2 μ-loop2 Inv-loop μ-loop
+loop2-less-10 c = turn-less (sentAt c) _ (indexed c .before .before .read-update .result .cursor .at) _ _ _ (sent-step c)
 
-loop2-less-4 : tie.Need-loop2-less-4 Inv-loop3 μ-loop3 Inv-loop4 μ-loop4 Inv-loop2 μ-loop2 Inv-loop μ-loop
-loop2-less-4 c = omega (arith, step-less (message (c .before .before)) (next c) (c .match .at) (c .match .body) (c .match .size) (c .match .kept) (came c .0), ahead (c .before .before))
+loop2-again-10 : tie.Need-loop2-again-10 Inv-loop3 μ-loop3 Inv-loop4 μ-loop4 Inv-loop2 μ-loop2 Inv-loop μ-loop
+loop2-again-10 c =
+    let k = message (sentAt c) in
+    let i = indexed c .index-of2 .result in
+    let to = indexed c .before .before .read-update .result .cursor .at in
+    turned (sentAt c) _ to _ _ _ (sent-step c) _ _
+    (marked-later k (set (k .records) i (c .before .before .update-turn .result .record)) i to _ (update-found c) (k .at) (omega arith) (omega (arith, update-less c)) (omega (arith, k .inside)))
 
-loop2-again-4 : tie.Need-loop2-again-4 Inv-loop3 μ-loop3 Inv-loop4 μ-loop4 Inv-loop2 μ-loop2 Inv-loop μ-loop
-loop2-again-4 c =
-    let p = message (c .before .before) in
-    let q = step-on p (next c) (c .match .at) (c .match .body) (c .match .size) (c .match .kept) (came c .0) _ _ (came c .1) in
-    (q .0, q .1, q .2, q .3, p .reached .4 ∙ q .4, q .5, q .6)
+refused-in-requires-2 : tie.Need-refused-in-requires-2 Inv-loop3 μ-loop3 Inv-loop4 μ-loop4 Inv-loop2 μ-loop2 Inv-loop μ-loop
+refused-in-requires-2 c κs = search needs
 
-slice-aggregate-put-copy : tie.Need-slice-aggregate-put-copy Inv-loop3 μ-loop3 Inv-loop4 μ-loop4 Inv-loop2 μ-loop2 Inv-loop μ-loop
-slice-aggregate-put-copy c = sym (c .before .before .loop2 .inv .2)
+same-length-2 : tie.Need-same-length-2 Inv-loop3 μ-loop3 Inv-loop4 μ-loop4 Inv-loop2 μ-loop2 Inv-loop μ-loop
+same-length-2 c = blockOf (inBlock (at (c .before .before))) .before .loop .inv .6
 
-put-copy-requires : tie.Need-put-copy-requires Inv-loop3 μ-loop3 Inv-loop4 μ-loop4 Inv-loop2 μ-loop2 Inv-loop μ-loop
-put-copy-requires c κs =
-    let k = c .before .before .loop2 in
-    let s = body (c .before .before .before .before) in
-    (k .inv .5, omega (arith, k .inv .1, k .inv .2, length-take (k .at - k .kept) (drop (k .kept) s), length-drop (k .kept) s))
+returns-2 : tie.Need-returns-2 Inv-loop3 μ-loop3 Inv-loop4 μ-loop4 Inv-loop2 μ-loop2 Inv-loop μ-loop
+returns-2 c = refuse-read (c .before) (c .refused-in2 .result) (c .refused-in2 .ensures)
 
-block-size-requires : tie.Need-block-size-requires Inv-loop3 μ-loop3 Inv-loop4 μ-loop4 Inv-loop2 μ-loop2 Inv-loop μ-loop
-block-size-requires c κs = fits (c .before) .0
+slice-aggregate-end-block : tie.Need-slice-aggregate-end-block Inv-loop3 μ-loop3 Inv-loop4 μ-loop4 Inv-loop2 μ-loop2 Inv-loop μ-loop
+slice-aggregate-end-block c = sym (c .before .before .before .loop2 .inv .2)
 
-sub-if26 : tie.Need-sub-if26 Inv-loop3 μ-loop3 Inv-loop4 μ-loop4 Inv-loop2 μ-loop2 Inv-loop μ-loop
-sub-if26 c = c .before .before .before .before .before .before .before .before .before .before .before .before .before .loop .inv .5
+end-block-requires : tie.Need-end-block-requires Inv-loop3 μ-loop3 Inv-loop4 μ-loop4 Inv-loop2 μ-loop2 Inv-loop μ-loop
+end-block-requires c κs =
+    let t = c .before .before .before in
+    let k = t .loop2 in
+    let b = begun (blockOf (openedAt t)) in
+    let l = blockOf (openedAt t) .before .loop in
+    (k .inv .5, k .inv .1, omega (arith, k .inv .2), l .inv .5, (λ e. omega (arith, leb-true (b .args .room) (length (b .args .out .now) - b .args .base) e, b .pre .2, l .inv .6)))
 
-refused-in-requires-8 : tie.Need-refused-in-requires-8 Inv-loop3 μ-loop3 Inv-loop4 μ-loop4 Inv-loop2 μ-loop2 Inv-loop μ-loop
-refused-in-requires-8 c κs = search needs
+refused-in-requires-3 : tie.Need-refused-in-requires-3 Inv-loop3 μ-loop3 Inv-loop4 μ-loop4 Inv-loop2 μ-loop2 Inv-loop μ-loop
+refused-in-requires-3 c κs = search needs
 
-same-length-8 : tie.Need-same-length-8 Inv-loop3 μ-loop3 Inv-loop4 μ-loop4 Inv-loop2 μ-loop2 Inv-loop μ-loop
-same-length-8 c = c .before .before .before .before .before .before .before .before .before .before .before .before .before .before .before .loop .inv .6
+same-length-3 : tie.Need-same-length-3 Inv-loop3 μ-loop3 Inv-loop4 μ-loop4 Inv-loop2 μ-loop2 Inv-loop μ-loop
+same-length-3 c = let e = c .before .before .before .before .before in kept-length e _ (e .end-block .ensures .1 .1 .0) ∙ blockOf (closing e) .before .loop .inv .6
 
-returns-8 : tie.Need-returns-8 Inv-loop3 μ-loop3 Inv-loop4 μ-loop4 Inv-loop2 μ-loop2 Inv-loop μ-loop
-returns-8 c = short (c .before) (c .refused-in8 .result) (c .refused-in8 .ensures)
-
-slice-aggregate-store-block : tie.Need-slice-aggregate-store-block Inv-loop3 μ-loop3 Inv-loop4 μ-loop4 Inv-loop2 μ-loop2 Inv-loop μ-loop
-slice-aggregate-store-block c = sym (fits (c .before .before .before .before .before) .1)
-
-store-block-requires : tie.Need-store-block-requires Inv-loop3 μ-loop3 Inv-loop4 μ-loop4 Inv-loop2 μ-loop2 Inv-loop μ-loop
-store-block-requires c κs =
-    let f = fits (c .before .before .before .before .before) in
-    (room-there (c .before .before), omega (arith, f), f .0)
+returns-3 : tie.Need-returns-3 Inv-loop3 μ-loop3 Inv-loop4 μ-loop4 Inv-loop2 μ-loop2 Inv-loop μ-loop
+returns-3 c =
+    let e = c .before .before .before .before .before in
+    let q = c .before .if20 .taken in
+    ap (wrote (c .refused-in3 .result)) (room-then e _ (e .end-block .ensures .1 .1 .0) true q) ∙ short e q (c .refused-in3 .result) (c .refused-in3 .ensures)
 
 add-written : tie.Need-add-written Inv-loop3 μ-loop3 Inv-loop4 μ-loop4 Inv-loop2 μ-loop2 Inv-loop μ-loop
-add-written c = omega (arith, c .before .before .before .before .before .if26 .left, c .before .before .before .before .before .before .before .before .before .before .before .before .before .before .before .before .before .before .before .loop .inv .5, c .before .before .before .before .before .before .before .before .before .before .before .before .before .before .before .before .before .before .before .before .before .before .before .before .before .before .before .fits .room)
+add-written c = let e = c .before .before .before .before .before in let o = closing e in omega (arith, enough e (c .before .if20 .left), blockOf o .before .loop .inv .5, begun (blockOf o) .fits .room)
 
 add-blocks : tie.Need-add-blocks Inv-loop3 μ-loop3 Inv-loop4 μ-loop4 Inv-loop2 μ-loop2 Inv-loop μ-loop
-add-blocks c = omega (arith, more (c .before .before .before .before .before .before .before .before .before .before .before .before .before .before .before .before .before .before), c .before .before .before .before .before .before .before .before .before .before .before .before .before .before .before .before .before .before .before .before .before .before .before .before .before .before .before .fits .most)
+add-blocks c = let o = closing (c .before .before .before .before .before) in omega (arith, more (blockOf o), begun (blockOf o) .fits .most)
 
 loop-less : tie.Need-loop-less Inv-loop3 μ-loop3 Inv-loop4 μ-loop4 Inv-loop2 μ-loop2 Inv-loop μ-loop
-loop-less c = omega (arith, more (c .before .before .before .before .before .before .before .before .before .before .before .before .before .before .before .before .before .before))
+loop-less c = omega (arith, more (blockOf (closing (c .before .before .before .before .before))))
 
 loop-again : tie.Need-loop-again Inv-loop3 μ-loop3 Inv-loop4 μ-loop4 Inv-loop2 μ-loop2 Inv-loop μ-loop
 loop-again c =
     let e = c .before .before .before .before .before in
-    let w = c .before .before in
-    let o = closing (e .before) in
-    let k = left (copying (e .before)) .loop2 in
+    let q = c .before .if20 .left in
+    let o = closing e in
+    let k = left e .loop2 in
     let a = begun (blockOf o) .args in
     let l = blockOf o .before .loop in
-    let n : a .most - l .blocks - 1 ≡ a .most - (l .blocks + 1) = omega arith in (
+    let n : a .most - l .blocks - 1 ≡ a .most - (l .blocks + 1) = omega arith in
+    let w = l .written + sizeOf e in (
       o .before .before .if2 .left,
       within o,
       omega (arith, k .inv .0),
       omega (arith, more (blockOf o)),
       k .inv .3,
-      omega (arith, e .if26 .left, l .inv .5),
-      kept-length w _ (w .store-block .ensures) ∙ l .inv .6,
-      fits (copying (e .before)) .1,
+      omega (arith, enough e q, l .inv .5),
+      kept-length e _ (e .end-block .ensures .1 .1 .0) ∙ l .inv .6,
+      e .end-block .ensures .1 .1 .1 ∙ k .inv .2,
       within-more (k .marks) (length (body o)) (end o + 1) (k .inv .6 .marks-inside) (omega (arith, body-long o)),
       omega (arith, k .inv .6 .time-inside, body-long o),
-      goes-on e ∙ ap₂ (λ (x : List ℕ) (j : ℕ). wroteOf (sceneOf (a .given)) (length (input (blockOf o))) (stores (blockOf o)) (a .base) (l .blocks + 1) (k .messages) (l .written + e .before .block-size .result) x (runOf (a .on) j (a .room - (l .written + e .before .block-size .result)) (after (e .before)) (drop (end o) (input (blockOf o))))) (stored-there w _ (w .store-block .ensures)) n,
+      goes-on e q
+          ∙ ap₂ (λ (x : List ℕ) (j : ℕ). wroteOf (sceneOf (a .given)) (length (input (blockOf o))) (stores (blockOf o)) (a .base) (l .blocks + 1) (k .messages) w x (runOf (a .on) j (a .room - w) (after e) (drop (end o) (input (blockOf o)))))
+          (sym (room-then e _ (e .end-block .ensures .1 .1 .0) false q)) n,
     )
 
 -- What is told where the loop over blocks is left: no block is to be read, or the one that is there is refused.
@@ -1603,14 +1631,18 @@ left-loop c =
 present-of-requires : tie.Need-present-of-requires Inv-loop3 μ-loop3 Inv-loop4 μ-loop4 Inv-loop2 μ-loop2 Inv-loop μ-loop
 present-of-requires c κs = search needs
 
-same-length-9 : tie.Need-same-length-9 Inv-loop3 μ-loop3 Inv-loop4 μ-loop4 Inv-loop2 μ-loop2 Inv-loop μ-loop
-same-length-9 c = c .before .before .loop .inv .6
+answer-requires : tie.Need-answer-requires Inv-loop3 μ-loop3 Inv-loop4 μ-loop4 Inv-loop2 μ-loop2 Inv-loop μ-loop
+answer-requires c κs = search needs
 
-returns-9 : tie.Need-returns-9 Inv-loop3 μ-loop3 Inv-loop4 μ-loop4 Inv-loop2 μ-loop2 Inv-loop μ-loop
-returns-9 c =
-    let k = c .before .before .loop in
-    ap (λ (p : List Bool). record { told = record { scene = held (k .baselines) (k .records) p (k .rest); blocks = k .blocks; messages = k .messages; next = k .start; refusal = c .before .loop-test .refusal; place = k .start }; written = k .written; room = k .out }) (c .present-of .ensures)
-    ∙ left-loop (c .before)
+same-length-4 : tie.Need-same-length-4 Inv-loop3 μ-loop3 Inv-loop4 μ-loop4 Inv-loop2 μ-loop2 Inv-loop μ-loop
+same-length-4 c = c .before .before .before .loop .inv .6
+
+returns-4 : tie.Need-returns-4 Inv-loop3 μ-loop3 Inv-loop4 μ-loop4 Inv-loop2 μ-loop2 Inv-loop μ-loop
+returns-4 c =
+    let k = c .before .before .before .loop in
+    (λ i. record { told = c .answer .ensures .0 i; written = c .answer .ensures .1 i; room = k .out })
+    ∙ ap (λ (p : List Bool). record { told = record { scene = held (k .baselines) (k .records) p (k .rest); blocks = k .blocks; messages = k .messages; next = k .start; refusal = c .before .before .loop-test .refusal; place = k .start }; written = k .written; room = k .out }) (c .before .present-of .ensures)
+    ∙ left-loop (c .before .before)
 
 pub write-blocks-spec : {M : Type 1} → statement M
 write-blocks-spec =
@@ -1631,16 +1663,14 @@ write-blocks-spec =
     add-at
     add-end
     slice-aggregate-s
-    quick-until-requires
+    loaded-until-requires
+    loaded-until-requires-2
     loop2-holds
     refused-in-requires
     same-length
     returns
     loop3-holds
-    shared-slice-read-k
-    add-update-head
-    update-head-requires
-    index-of-requires
+    load-head-requires
     mul-b
     array-copy-out-b
     needed-fields-requires
@@ -1652,10 +1682,7 @@ write-blocks-spec =
     loop3-less
     loop3-again
     loop4-holds
-    shared-slice-read-k-2
-    add-update-head-2
-    update-head-requires-2
-    index-of-requires-2
+    load-head-requires-2
     mul-b-2
     array-copy-out-b-2
     update-fields-requires
@@ -1668,52 +1695,42 @@ write-blocks-spec =
     loop4-again
     loop2-less
     loop2-again
-    shared-slice-read-k-3
-    add-t109
-    sound-at-requires
-    refused-in-requires-2
-    same-length-2
-    returns-2
-    slice-aggregate-put-sound-behind
-    put-sound-behind-requires
+    shared-slice-read-k
+    add-t81
     context-requires
-    time-at-requires
-    refused-in-requires-3
-    same-length-3
-    returns-3
-    with-time-requires
-    add-client-at
-    client-at-requires
-    refused-in-requires-4
-    same-length-4
-    returns-4
-    slice-aggregate-put-client-behind
-    put-client-behind-requires
-    with-client-requires
-    is-passed-requires
-    context-requires-2
-    pass-message-requires
-    refused-in-requires-5
-    same-length-5
-    returns-5
     add-messages-3
+    slice-aggregate-sound-turn
+    sound-turn-requires
     loop2-less-2
     loop2-again-2
-    context-requires-3
+    time-at-requires
+    with-time-requires
+    loop2-less-3
+    loop2-again-3
+    slice-aggregate-client-turn
+    client-turn-requires
+    with-client-requires
+    loop2-less-4
+    loop2-again-4
+    is-passed-requires
+    pass-message-requires
+    loop2-less-5
+    loop2-again-5
     read-message-requires
-    refused-in-requires-6
-    same-length-6
-    returns-6
     enum-known-message
-    index-of-requires-3
+    index-of-requires
     mul-baselines
     array-set-from-baselines
     enum-known-message-2
     cleared-scene-requires
     apply-rest-requires
-    add-update-head-3
-    update-head-requires-3
-    index-of-requires-4
+    loop2-less-6
+    loop2-again-6
+    loop2-less-7
+    loop2-again-7
+    loop2-less-8
+    loop2-again-8
+    load-head-requires-3
     mul-b-3
     array-copy-out-b-3
     update-fields-requires-2
@@ -1723,39 +1740,33 @@ write-blocks-spec =
     array-set-from-records-3
     mul-marks-3
     array-write-marks-3
-    add-messages-4
-    loop2-less-3
-    loop2-again-3
+    loop2-less-9
+    loop2-again-9
     read-update-requires
-    refused-in-requires-7
-    same-length-7
-    returns-7
-    index-of-requires-5
+    index-of-requires-2
     mul-b-4
     array-copy-out-b-4
-    fill-update-requires
-    slice-aggregate-put-update-behind-2
-    put-update-behind-requires-2
+    slice-aggregate-update-turn
+    update-turn-requires
     mul-records-4
     array-set-from-records-4
     mul-marks-4
     array-write-marks-4
-    add-messages-5
-    loop2-less-4
-    loop2-again-4
-    slice-aggregate-put-copy
-    put-copy-requires
-    block-size-requires
-    sub-if26
-    refused-in-requires-8
-    same-length-8
-    returns-8
-    slice-aggregate-store-block
-    store-block-requires
+    loop2-less-10
+    loop2-again-10
+    refused-in-requires-2
+    same-length-2
+    returns-2
+    slice-aggregate-end-block
+    end-block-requires
+    refused-in-requires-3
+    same-length-3
+    returns-3
     add-written
     add-blocks
     loop-less
     loop-again
     present-of-requires
-    same-length-9
-    returns-9)
+    answer-requires
+    same-length-4
+    returns-4)

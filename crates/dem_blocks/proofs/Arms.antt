@@ -27,9 +27,7 @@ use Rattle.dem.specs.Recording.{readMessage, writeMessage, messages}
 use Rattle.format.proofs.ResultLaws.{clash}
 use Rattle.format.proofs.ByteLaws.{drop-bytes}
 use Rattle.dem.proofs.BlockLaws.{message-lawful}
-use Rattle.dem_normal.specs.Normal.{soundBytes}
-use Rattle.dem_normal.proofs.OtherForm.{Unmasked, other-form}
-use Rattle.dem_normal.proofs.SoundBytes.{no-sound}
+use Rattle.dem_normal.proofs.PlainForm.{plain-form}
 use Rattle.format.proofs.LayoutLaws.{Allowed}
 use Rattle.format.proofs.AtLaws.{one-at, parse-good}
 use Rattle.dem.proofs.MessageLaws.{kind-update, fill-update, fill-client}
@@ -39,6 +37,7 @@ use Rattle.wire.specs.declared.Cursor.{Cursor}
 use Rattle.wire.specs.declared.Text.{Text}
 use Rattle.wire.proofs.Sticky.{here}
 use Rattle.dem_types.proofs.Message as Messages
+use Rattle.dem_types.proofs.ByNumber.{updatePlace, not-at}
 use Rattle.dem_types.specs.declared.Message.{Message as Sent}
 use Rattle.dem_types.specs.declared.Message.the-variants as M
 use Rattle.dem_types.specs.declared.Clientdata.{Clientdata}
@@ -228,9 +227,9 @@ module _ (s : List ℕ) (at : ℕ) (l : at < length s) (b : List Baseline) (e : 
     module _ (n : ℕ) (en : n ≡ getD s at 0) (large : 128 ≤ n) (high i : ℕ) (sent : List Value) (to : ℕ) (r : Record)
         (q : parse (updateLayout n) (drop (at + 1) s) ≡ found (number high ∷ number i ∷ sent) (drop to s))
         (f : fillUpdate (baselineNumbers (getD b i noBaseline)) n (number high ∷ number i ∷ sent) ≡ number Kind.update ∷ number i ∷ recordValues r) where
-      quick-read : readMessage (held b e p x) (drop at s) ≡ found (number n ∷ number high ∷ number i ∷ sent) (drop to s)
+      filled-read : readMessage (held b e p x) (drop at s) ≡ found (number n ∷ number high ∷ number i ∷ sent) (drop to s)
       unfolding sceneWith layout
-      quick-read =
+      filled-read =
           let t = held b e p x in
           let us : List Value = number high ∷ number i ∷ sent in
           let message : isMessage n ≡ true = is-message n (λ z. omega arith) (λ z. omega arith) (λ y z. omega arith) in
@@ -239,16 +238,16 @@ module _ (s : List ℕ) (at : ℕ) (l : at < length s) (b : List Baseline) (e : 
           ∙ ap (λ (y : Layout). put (number n) (parse y (drop (at + 1) s))) (kind-update (contextOf t) n (le-leb 128 n large))
           ∙ ap (put (number n)) q)
 
-      pub quick-moved : Moved s (held b e p x) at (held b (set e i r) (set p i true) x) to (updateForm i r)
+      pub filled-moved : Moved s (held b e p x) at (held b (set e i r) (set p i true) x) to (updateForm i r)
       unfolding sceneWith apply
-      quick-moved =
+      filled-moved =
           let t = held b e p x in
           let us : List Value = number high ∷ number i ∷ sent in
           let filled : fill t (number n ∷ us) ≡ number Kind.update ∷ number i ∷ recordValues r =
           fill-update t n us (le-leb 128 n large) ∙ ap (λ (y : List ℕ). fillUpdate y n us) (sym (seen-at baselineNumbers b i noBaseline)) ∙ f in
           record {
             values = number n ∷ us;
-            read = quick-read;
+            read = filled-read;
             scene = ap (apply t) filled
                 ∙ sym (ap (λ (l : List (List ℕ)). withTables (t .baselines) l (set (t .present) i true) t) (set-seen recordNumbers e i r _ refl));
             normal = update-normal i r (number n ∷ us) filled;
@@ -262,7 +261,7 @@ module _ (s : List ℕ) (at : ℕ) (l : at < length s) (b : List Baseline) (e : 
           let t = held b e p x in
           ap (print (layoutIn t)) same
           ∙ copied s at to (writeMessage t (number n ∷ number high ∷ number i ∷ sent)) l
-          (message-lawful .sound t (drop at s) (number n ∷ number high ∷ number i ∷ sent) (drop to s) (drop-bytes at s h) quick-read .tiles)
+          (message-lawful .sound t (drop at s) (number n ∷ number high ∷ number i ∷ sent) (drop to s) (drop-bytes at s h) filled-read .tiles)
 
     -- ---- a time, and clientdata
 
@@ -346,12 +345,9 @@ module _ (s : List ℕ) (at : ℕ) (l : at < length s) (b : List Baseline) (e : 
 
         -- Of a number that is no sound's, no clientdata's and no update's: it is its own normal form.
         module _ (n6 : Kind.sound ≢ getD s at 0) (n15 : 15 ≢ getD s at 0) (low : getD s at 0 < 128) where
-          unmasked : Unmasked m
-          unmasked =
-              record {
-                client = λ d g. n15 (first 15 _ (ap (valuesOf s) g));
-                update = λ u g. let w = first (u .number) _ (ap (valuesOf s) g) in omega (arith, leb-true 128 (u .number) (read-numbered s at k m c h q z u g));
-              }
+          no-update : (u : Update) → m ≡ M.Update u → ⊥
+          no-update u g =
+              let w = first (u .number) _ (ap (valuesOf s) g) in omega (arith, leb-true 128 (u .number) (read-numbered s at k m c h q z u g))
 
           abbrev pub otherForm : List ℕ
           otherForm = take (c .at - at) (drop at s)
@@ -359,8 +355,8 @@ module _ (s : List ℕ) (at : ℕ) (l : at < length s) (b : List Baseline) (e : 
           other-moved : (t : Scene) → apply (held b e p x) (fill (held b e p x) (valuesOf s m)) ≡ t → Moved s (held b e p x) at t (c .at) otherForm
           other-moved t f =
               parsed-moved (valuesOf s m) c other-parsed z t f _
-              (other-form (held b e p x) (placed s) otherForm m unmasked (parsed-bytes (valuesOf s m) c other-parsed h z)
-              ∙ ap (soundBytes (contextOf (held b e p x)) otherForm) (no-sound m (λ v g. n6 (first Kind.sound _ (ap (valuesOf s) g)))))
+              (plain-form (held b e p x) (placed s) m (not-at 5 m (λ y g. n6 (first Kind.sound _ (ap (valuesOf s) g)))) (not-at 14 m (λ y g. n15 (first 15 _ (ap (valuesOf s) g)))) (not-at updatePlace m (λ y. no-update (y .0)))
+              ∙ parsed-bytes (valuesOf s m) c other-parsed h z)
 
           pub baseline-moved : (i : Entity) (o : Look) (r : Pose) → m ≡ M.Baseline i o r
               → Moved s (held b e p x) at (held (set b (i .0) (record { look = o; pose = r })) e p x) (c .at) otherForm
@@ -390,7 +386,7 @@ module _ (s : List ℕ) (at : ℕ) (l : at < length s) (b : List Baseline) (e : 
                 time = λ v g. n7 (first 7 _ (ap (valuesOf s) g));
                 serverinfo = λ i. not-among ks m (M.Serverinfo i) o n10;
                 baseline = λ i o′ r. not-among ks m (M.Baseline i o′ r) o n20;
-                update = λ u g. unmasked .update u g;
+                update = λ u g. no-update u g;
               }) in
               other-moved _
               (sym (rest-joined (apply t (fill t (valuesOf s m))) y (t .baselines) (t .records) (t .present)

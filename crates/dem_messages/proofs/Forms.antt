@@ -46,7 +46,7 @@ use Rattle.dem_scene.specs.declared.Record.{Record}
 use Rattle.dem_scene.specs.declared.Scene.{Scene as Held}
 use Rattle.dem_normal.specs.Put.{Put}
 use Rattle.dem_scene.proofs.Filling.{plain}
-use Rattle.dem_normal.proofs.OtherForm.{plain-form}
+use Rattle.dem_normal.proofs.PlainForm.{plain-form}
 use Rattle.dem_normal.proofs.SoundBytes.{sound-sent}
 use Rattle.dem_messages.specs.Replies.{answerOf, replyOf}
 use Rattle.dem_messages.specs.declared.MessageAnswer.{MessageAnswer}

@@ -3,4 +3,4 @@ pub mod UpdateBytes
 pub mod ClientBytes
 pub mod SoundBytes
 pub mod BlockBytes
-pub mod OtherForm
+pub mod PlainForm

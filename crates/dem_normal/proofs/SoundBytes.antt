@@ -1,9 +1,7 @@
--- The bytes of a sound in normal form: number and mask, the fields that differ, then its place. No other message is a sound.
+-- The bytes of a sound in normal form: number and mask, the fields that differ, then its place.
 -- Assumes nothing.
 use mathlib.Core.Path.{_≡_, refl, sym, ap, _∙_}
-use mathlib.Core.Logic.{inl, inr}
 use mathlib.Core.List.{List, [], _∷_, _++_}
-use mathlib.Core.Option.{Option, none, some}
 use Prim.Native.Nat.{ℕ, _+_, _*_, _%_}
 use native.Mathlib.Omega.{arith}
 use Rattle.dem.specs.Kind
@@ -14,10 +12,7 @@ use Rattle.dem.specs.Scene.{Context}
 use Rattle.dem.specs.Message.{layout, kindLayout, row, soundSlots, soundTail, fillSound, sendSound}
 use Rattle.format.proofs.ByteLaws.{bit-from}
 use Rattle.format.proofs.MaskedLaws.{Chosen, Agree, behind, agree-below, agree-layout}
-use Rattle.dem_types.specs.declared.Message.{Message}
-use Rattle.dem_types.specs.declared.Message.the-variants as M
 use Rattle.dem_types.specs.declared.Sound.{Sound}
-use Rattle.dem_types.proofs.ByNumber.{Variant, variant}
 use Rattle.dem_types.specs.Values.{soundValues}
 use Rattle.dem_scene.specs.Views.{filledSoundValues}
 use Rattle.dem_scene.specs.declared.FilledSound.{FilledSound}
@@ -77,24 +72,6 @@ module _ (s : FilledSound) where
       (ap (λ (n : ℕ). leWrite 1 6 ++ (leWrite 1 n ++ later)) en ∙ whole x)
       (put-then a b e i j m (leWrite 1 6) (leWrite 1 n ++ later) f
       (put-then b c e j k m (leWrite 1 n) later g (put-then c d e k l m (sentBytes soundSlots fields) (placeBytes s) h o)))
-
--- ---- which message is a sound
-
--- By the place of sounds in the list of messages.
-abbrev pub soundIn : (m : Message) → Variant 5 m → Option Sound
-soundIn m (inl x) = some (x .0 .0)
-soundIn m (inr q) = none
-
--- The sound that a message is, if it is one.
-abbrev pub soundOf : Message → Option Sound
-soundOf m = soundIn m (variant 5 m)
-
-pub no-sound : (m : Message) → ((v : Sound) → m ≡ M.Sound v → ⊥) → soundOf m ≡ none
-no-sound m h = go (variant 5 m)
-  where
-    go : (x : Variant 5 m) → soundIn m x ≡ none
-    go (inl x) = absurd (h (x .0 .0) (x .1))
-    go (inr q) = refl
 
 -- A sound's bytes, from its fields filled in.
 pub sound-sent : (x : Context) (v : Sound) (f : FilledSound) → number Kind.sound ∷ filledSoundValues f ≡ fillSound (soundValues v)

@@ -1,16 +1,10 @@
 -- The bytes of a sound.
 use mathlib.Core.List.{List, _++_}
-use mathlib.Core.Option.{Option, none, some}
 use Prim.Native.Nat.{ℕ, _+_, _*_}
 use mir.Val.{ofZ}
 use mir.Syntax.{w16}
 use Rattle.format.specs.Bytes.{leWrite}
-use Rattle.format.specs.Layout.{print, tail}
-use Rattle.dem.specs.Scene.{Context}
-use Rattle.dem.specs.Message.{layout, fillSound, sendSound}
-use Rattle.dem_types.specs.declared.Sound.{Sound}
 use Rattle.dem_types.specs.declared.Vector.{Vector}
-use Rattle.dem_types.specs.Values.{soundValues}
 use Rattle.dem_scene.specs.declared.FilledSound.{FilledSound}
 
 abbrev pub vectorBytes : Vector → List ℕ
@@ -19,8 +13,3 @@ vectorBytes v = leWrite 2 (ofZ w16 (v .x)) ++ (leWrite 2 (ofZ w16 (v .y)) ++ leW
 -- Behind a sound's slots: channel and entity, sound, origin.
 abbrev pub placeBytes : FilledSound → List ℕ
 placeBytes s = leWrite 2 (s .entity .0 * 8 + s .channel) ++ (leWrite 1 (s .sound) ++ vectorBytes (s .origin))
-
--- A sound in normal form; without one, the bytes as they were read.
-abbrev pub soundBytes : Context → List ℕ → Option Sound → List ℕ
-soundBytes x read none = read
-soundBytes x read (some v) = print (layout x) (sendSound (tail (fillSound (soundValues v))))

@@ -52,7 +52,7 @@ use Rattle.dem_blocks.specs.Marks.{marked}
 use Rattle.dem_blocks.proofs.Marks.{Within, within-more, within-bits, marked-set, marked-none, marked-bits, Before, before-later, before-marked, before-timed}
 use Rattle.dem_blocks.proofs.SoFar.{and-false, or-false, far-begins, Grown, grown-kept, grown-behind}
 use Rattle.dem_blocks.proofs.Turns.{Moved, before-stop, head-refused, head-found, moved-less, moved-short, moved-range, block-length, put-block-there, put-length, closed, closed-short, closed-fits, inside, on-refused, on-moved, on-end, run-over, run-refused, run-opened}
-use Rattle.dem_blocks.proofs.Arms.{held, noBaseline, quick-moved, kept-form, ended-refused, kind-parsed, parsed-refused, update-parsed, update-known, update-moved, time-moved, ClientRead, client-read, kept-client, client-moved, sound-moved, passed-parsed, passed-moved, other-parsed, baseline-known, baseline-moved, serverinfo-moved, cleared-present, rest-moved}
+use Rattle.dem_blocks.proofs.Arms.{held, noBaseline, filled-moved, kept-form, ended-refused, kind-parsed, parsed-refused, update-parsed, update-known, update-moved, time-moved, ClientRead, client-read, kept-client, client-moved, sound-moved, passed-parsed, passed-moved, other-parsed, baseline-known, baseline-moved, serverinfo-moved, cleared-present, rest-moved}
 use Rattle.dem_blocks.proofs.write_blocks.Statement.{statement}
 use Rattle.dem_blocks.proofs.write_blocks.Tie as tie
 
@@ -435,7 +435,7 @@ module _ {o : Opened} (p : Place o) (h : LoadedHead) (f : RecordAt) (l : Loaded 
 
   loaded-read : Moved (body o) (scene p) (p .at) (held (p .baselines) (set (p .records) (h .index) (f .record)) (set (present p) (h .index) true) (p .rest)) (f .next) form
   loaded-read =
-      quick-moved (body o) (p .at) (p .inside) (p .baselines) (p .records) (present p) (p .rest) (p .going) (getD (input (blockOf o)) (p .at) 0) number-there (l .head .large)
+      filled-moved (body o) (p .at) (p .inside) (p .baselines) (p .records) (present p) (p .rest) (p .going) (getD (input (blockOf o)) (p .at) 0) number-there (l .head .large)
       (at-once .high) (h .index) (at-once .sent) (f .next) (f .record) (at-once .parsed) (at-once .filled)
 
   -- It is marked by its own place, or the one behind it.

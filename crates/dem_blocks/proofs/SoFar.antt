@@ -2,7 +2,7 @@
 -- Assumes nothing.
 use mathlib.Core.Path.{_≡_, refl, sym, ap, ap₂, _∙_, subst}
 use mathlib.Core.List.{List, [], _++_, append-nil, append-assoc}
-use mathlib.Core.Bool.{Bool, true, false, cond, _&&_, _||_}
+use mathlib.Core.Bool.{Bool, true, false, cond, _&&_}
 use Prim.Native.Nat.{ℕ, _+_, _-_, _<_, _≤_}
 use native.Mathlib.Omega.{arith}
 use lib.ListN.{length, take, drop, length-take, length-drop, length-append}
@@ -15,10 +15,6 @@ use Rattle.dem_blocks.specs.Runs.{soFar}
 pub and-false : (a b : Bool) → a ≡ true → (a && b) ≡ false → b ≡ false
 and-false true b t e = e
 and-false false b t e = clash (cc)
-
-pub or-false : (a b : Bool) → (a || b) ≡ false → (a ≡ false) × (b ≡ false)
-or-false true b e = clash (cc)
-or-false false b e = (refl, e)
 
 module _ (s : List ℕ) where
   stretch : (kept at to : ℕ) → kept ≤ at → at ≤ to → take (to - kept) (drop kept s) ≡ take (at - kept) (drop kept s) ++ take (to - at) (drop at s)

@@ -26,7 +26,7 @@ use Rattle.format.proofs.BitLaws.{bit-test}
 use Rattle.dem_direct.specs.Spread.{passed, needlessIn, clientFields, clientIn, clientAt}
 use Rattle.dem_direct.proofs.Fields.{sent}
 use Rattle.dem_direct.proofs.NormalLaws.{client-kept}
-use Rattle.dem_direct.proofs.QuickLaws.{slots-filled, slots-parsed}
+use Rattle.dem_direct.proofs.LoadLaws.{slots-filled, slots-parsed}
 
 pub client-good : (m : ℕ) → bit m 8 ≡ false → m < 32768 → clientRule m ≡ 0
 client-good m e h =

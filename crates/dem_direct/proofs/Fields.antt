@@ -24,10 +24,8 @@ use Rattle.dem_types.specs.declared.Pose.{Pose}
 use Rattle.dem_types.specs.Values.{poseValues}
 use Rattle.format.proofs.BitLaws.{bit-test}
 use Rattle.dem.proofs.UpdateLaws.{update-mask}
-use Rattle.dem_direct.specs.Spread.{fieldOr, behind, needlessOr, spread, passed, needlessIn, lookSlots, lookOf, poseSlots}
+use Rattle.dem_direct.specs.Spread.{fieldOr, behind, needlessOr, spread, passed, needlessIn, lookSlots, poseSlots}
 use Rattle.dem_direct.specs.Heads.{highAt, maskAt, entityWidth, headAt, needlessHead}
-use Rattle.dem_direct.specs.declared.ByteOr.{ByteOr}
-use Rattle.dem_direct.specs.declared.LookOr.{LookOr}
 use Rattle.dem_direct.specs.declared.UpdateHead.{UpdateHead}
 
 pub set-one : (x : ℕ) → (x ≡ 0 → ⊥) → isSet x ≡ true
@@ -208,12 +206,12 @@ slots-then d mask rs ss at before us next n vs end n′ p e = (
 -- ---- a pose
 
 -- Its fields in turn.
-pub pose-each : (d : List ℕ) (m : Mask) (o : Pose) (at : ℕ) (before : Bool) (x a y b z c : ℤ) (x′ a′ y′ b′ z′ c′ : ℕ) (xn an yn bn zn cn : Bool)
+pub pose-each : (d : List ℕ) (m : Mask) (o : Pose) (at : ℕ) (before : Bool) (x a y b z c : ℤ) {x′ a′ y′ b′ z′ c′ : ℕ} {xn an yn bn zn cn : Bool}
     → Signed w16 d at (m 1) 2 before x (o .x) x′ xn → Signed w8 d x′ (m 8) 1 xn a (o .angle0) a′ an → Signed w16 d a′ (m 2) 2 an y (o .y) y′ yn
     → Signed w8 d y′ (m 4) 1 yn b (o .angle1) b′ bn → Signed w16 d b′ (m 3) 2 bn z (o .z) z′ zn → Signed w8 d z′ (m 9) 1 zn c (o .angle2) c′ cn
     → Spreads d (poseSlots o) m at before
     (poseValues (record { x = toZ w16 (ofZ w16 x); angle0 = toZ w8 (ofZ w8 a); y = toZ w16 (ofZ w16 y); angle1 = toZ w8 (ofZ w8 b); z = toZ w16 (ofZ w16 z); angle2 = toZ w8 (ofZ w8 c) })) c′ cn
-pose-each d m o at before x a y b z c x′ a′ y′ b′ z′ c′ xn an yn bn zn cn ex ea ey eb ez ec =
+pose-each d m o at before x a y b z c {x′} {a′} {y′} {b′} {z′} {c′} {xn} {an} {yn} {bn} {zn} {cn} ex ea ey eb ez ec =
     let ss = poseSlots o in
     slot-then d m (slot 1 2 (ofZ w16 (o .x))) (drop 1 ss) at before _ x′ xn _ c′ cn refl (signed-picks w16 d at (m 1) 2 before x (o .x) x′ xn ex)
     (slot-then d m (slot 8 1 (ofZ w8 (o .angle0))) (drop 2 ss) x′ xn _ a′ an _ c′ cn refl (signed-picks w8 d x′ (m 8) 1 xn a (o .angle0) a′ an ea)
@@ -251,46 +249,28 @@ sent d (s ∷ ss) mask at = number (fieldOr d at (isSent s mask) (s .width) 0) �
 
 -- ---- a look
 
--- What is ensured of a byte that bit k brings, and of a look with effects.
-abbrev Byte : List ℕ → ℕ → ℕ → ℕ → ℕ → Bool → ByteOr → Type 0
-Byte d at m k other before r =
-    (r .value ≡ fieldOr d at (bit m k) 1 other)
-    × ((r .next ≡ behind at (bit m k) 1) × ((r .needless ≡ needlessOr before d at (bit m k) 1 other) × (r .next ≤ at + 1)))
-
-abbrev Looked : List ℕ → ℕ → ℕ → Look → LookOr → Type 0
-Looked d at m o r =
-    (lookOf r ≡ spread d (lookSlots o) (bit m) at)
-    × ((r .next ≡ passed (lookSlots o) (bit m) at) × ((r .needless ≡ needlessIn d (lookSlots o) (bit m) at false) × (r .next ≤ at + 5)))
-
-byte-then : (d : List ℕ) (m k other : ℕ) (ss : List Slot) (at : ℕ) (before : Bool) (r : ByteOr) (vs : List Value) (end : ℕ) (n : Bool)
-    → Byte d at m k other before r → Spreads d ss (bit m) (r .next) (r .needless) vs end n
-    → Spreads d (slot k 1 other ∷ ss) (bit m) at before (number (r .value) ∷ vs) end n
-byte-then d m k other ss at before r vs end n p =
-    slot-then d (bit m) (slot k 1 other) ss at before (r .value) (r .next) (r .needless) vs end n refl (p .0, p .1 .0, p .1 .1 .0)
-
 module _ (d : List ℕ) (at m : ℕ) (o : Look) where
   -- Where bits 10 to 13 are clear only the frame can be sent.
-  pub look-frame : (f : ByteOr) → m / 2 ^ 10 % 16 ≡ 0 → Byte d at m 6 (o .frame) false f
-      → Looked d at m o (record { model = o .model; frame = f .value; colormap = o .colormap; skin = o .skin; effects = 0; next = f .next; needless = f .needless })
-  look-frame f h p =
+  pub look-frame : {f f′ : ℕ} {fn : Bool} → m / 2 ^ 10 % 16 ≡ 0 → Picks d at (bit m 6) 1 (o .frame) false f f′ fn
+      → Spreads d (lookSlots o) (bit m) at false (number (o .model) ∷ number f ∷ number (o .colormap) ∷ number (o .skin) ∷ number 0 ∷ []) f′ fn
+  look-frame {f} {f′} {fn} h p =
       let z = four-clear m h in
       let ss = lookSlots o in
-      let q = slot-unsent d (bit m) (slot 10 1 (o .model)) (drop 1 ss) at false _ (f .next) (f .needless) refl (z .0)
-      (byte-then d m 6 (o .frame) (drop 2 ss) at false f _ (f .next) (f .needless) p
-      (slot-unsent d (bit m) (slot 11 1 (o .colormap)) (drop 3 ss) (f .next) (f .needless) _ (f .next) (f .needless) refl (z .1)
-      (slot-unsent d (bit m) (slot 12 1 (o .skin)) (drop 4 ss) (f .next) (f .needless) _ (f .next) (f .needless) refl (z .2)
-      (slot-unsent d (bit m) (slot 13 1 0) [] (f .next) (f .needless) [] (f .next) (f .needless) refl (z .3) (refl, refl, refl))))) in
-      (q .0, (q .1, (q .2, omega arith)))
+      slot-unsent d (bit m) (slot 10 1 (o .model)) (drop 1 ss) at false _ f′ fn refl (z .0)
+      (slot-then d (bit m) (slot 6 1 (o .frame)) (drop 2 ss) at false f f′ fn _ f′ fn refl p
+      (slot-unsent d (bit m) (slot 11 1 (o .colormap)) (drop 3 ss) f′ fn _ f′ fn refl (z .1)
+      (slot-unsent d (bit m) (slot 12 1 (o .skin)) (drop 4 ss) f′ fn _ f′ fn refl (z .2)
+      (slot-unsent d (bit m) (slot 13 1 0) [] f′ fn [] f′ fn refl (z .3) (refl, refl, refl)))))
 
   -- Each field by its bit.
-  pub look-each : (p f k s e : ByteOr) → Byte d at m 10 (o .model) false p → Byte d (p .next) m 6 (o .frame) (p .needless) f
-      → Byte d (f .next) m 11 (o .colormap) (f .needless) k → Byte d (k .next) m 12 (o .skin) (k .needless) s → Byte d (s .next) m 13 0 (s .needless) e
-      → Looked d at m o (record { model = p .value; frame = f .value; colormap = k .value; skin = s .value; effects = e .value; next = e .next; needless = e .needless })
-  look-each p f k s e hp hf hk hs he =
+  pub look-each : {p f k s e p′ f′ k′ s′ e′ : ℕ} {pn fn kn sn en : Bool} → Picks d at (bit m 10) 1 (o .model) false p p′ pn
+      → Picks d p′ (bit m 6) 1 (o .frame) pn f f′ fn → Picks d f′ (bit m 11) 1 (o .colormap) fn k k′ kn
+      → Picks d k′ (bit m 12) 1 (o .skin) kn s s′ sn → Picks d s′ (bit m 13) 1 0 sn e e′ en
+      → Spreads d (lookSlots o) (bit m) at false (number p ∷ number f ∷ number k ∷ number s ∷ number e ∷ []) e′ en
+  look-each {p} {f} {k} {s} {e} {p′} {f′} {k′} {s′} {e′} {pn} {fn} {kn} {sn} {en} hp hf hk hs he =
       let ss = lookSlots o in
-      let q = byte-then d m 10 (o .model) (drop 1 ss) at false p _ (e .next) (e .needless) hp
-      (byte-then d m 6 (o .frame) (drop 2 ss) (p .next) (p .needless) f _ (e .next) (e .needless) hf
-      (byte-then d m 11 (o .colormap) (drop 3 ss) (f .next) (f .needless) k _ (e .next) (e .needless) hk
-      (byte-then d m 12 (o .skin) (drop 4 ss) (k .next) (k .needless) s _ (e .next) (e .needless) hs
-      (byte-then d m 13 0 [] (s .next) (s .needless) e [] (e .next) (e .needless) he (refl, refl, refl))))) in
-      (q .0, (q .1, (q .2, omega arith)))
+      slot-then d (bit m) (slot 10 1 (o .model)) (drop 1 ss) at false p p′ pn _ e′ en refl hp
+      (slot-then d (bit m) (slot 6 1 (o .frame)) (drop 2 ss) p′ pn f f′ fn _ e′ en refl hf
+      (slot-then d (bit m) (slot 11 1 (o .colormap)) (drop 3 ss) f′ fn k k′ kn _ e′ en refl hk
+      (slot-then d (bit m) (slot 12 1 (o .skin)) (drop 4 ss) k′ kn s s′ sn _ e′ en refl hs
+      (slot-then d (bit m) (slot 13 1 0) [] s′ sn e e′ en [] e′ en refl he (refl, refl, refl)))))

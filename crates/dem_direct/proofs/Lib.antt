@@ -1,4 +1,4 @@
 pub mod Fields
 pub mod NormalLaws
-pub mod QuickLaws
+pub mod LoadLaws
 pub mod ClientLaws

@@ -18,34 +18,18 @@ use Rattle.dem.specs.Message.{highBit, wideBit, recordBit, groundBit, waterBit,
 use Rattle.dem.specs.Message.{clientSlots, clientMask, sendClient}
 use Rattle.format.proofs.ResultLaws.{clash}
 use Rattle.format.proofs.ByteLaws.{set-bit}
+use Rattle.format.proofs.LayoutLaws.{both-false}
 use Rattle.format.proofs.MaskedLaws.{Agree, Chosen}
 use Rattle.dem.proofs.UpdateLaws.{update-mask}
 use Rattle.dem_direct.specs.Spread.{fieldOr, behind, needlessOr, spread, needlessIn, filledAt, suppliesSlots, clientFields, clientIn}
 use Rattle.dem_direct.specs.Heads.{needlessHead}
-use Rattle.dem_direct.proofs.Fields.{set-one, bit-set, bit-clear, sent}
-
-or-false : (a b : Bool) → (a || b) ≡ false → (a ≡ false) × (b ≡ false)
-or-false true b e = clash (cc)
-or-false false b e = (refl, e)
+use Rattle.dem_direct.proofs.Fields.{set-one, bit-set, bit-clear, needless-stays, sent}
 
 -- ---- slots
 
 module _ (d : List ℕ) (mask : Mask) where
-  -- A flag once set stays set.
-  stays : (ss : List Slot) (at : ℕ) → needlessIn d ss mask at true ≡ true
-  unfolding needlessOr
-  stays [] at = refl
-  stays (s ∷ ss) at =
-      ap (needlessIn d ss mask (behind at (isSent s mask) (s .width))) (go (s .always) (isSent s mask))
-      ∙ stays ss (behind at (isSent s mask) (s .width))
-    where
-      go : (a b : Bool) → cond a true (cond b true true) ≡ true
-      go true b = refl
-      go false true = refl
-      go false false = refl
-
   pub before-clear : (ss : List Slot) (at : ℕ) (before : Bool) → needlessIn d ss mask at before ≡ false → before ≡ false
-  before-clear ss at true e = clash (cc (stays ss at))
+  before-clear ss at true e = clash (cc (needless-stays d ss mask at))
   before-clear ss at false e = refl
 
   -- One slot that is not sent needlessly is sent exactly if it differs.
@@ -58,7 +42,7 @@ module _ (d : List ℕ) (mask : Mask) where
       go : (a b : Bool) → cond a before (needlessOr before d at (a || b) (s .width) (s .default)) ≡ false
           → (a || b) ≡ (a || not (eqb (fieldOr d at (a || b) (s .width) (s .default)) (s .default)))
       go true b e = refl
-      go false true e = sym (ap not (or-false before (eqb (leRead (take (s .width) (drop at d))) (s .default)) e .1))
+      go false true e = sym (ap not (both-false before (eqb (leRead (take (s .width) (drop at d))) (s .default)) e .1))
       go false false e = sym (ap not (eq-eqb (s .default) (s .default) refl))
 
   pub chosen : (ss : List Slot) (at : ℕ) (before : Bool) → needlessIn d ss mask at before ≡ false → Chosen ss mask (spread d ss mask at)
@@ -134,7 +118,7 @@ module _ (d : List ℕ) (b : Baseline) (n high e at : ℕ) (small : n < 256) (up
 
   heads : ((bit mask highBit && ltb mask 256) ≡ false) × ((bit mask wideBit && ltb e 256) ≡ false)
   unfolding needlessHead
-  heads = or-false (bit mask highBit && ltb mask 256) (bit mask wideBit && ltb e 256) needed
+  heads = both-false (bit mask highBit && ltb mask 256) (bit mask wideBit && ltb e 256) needed
 
   wide : leb 256 e ≡ bit high 6
   wide = go (bit mask wideBit) refl ∙ ap (λ (m : Mask). m wideBit) split

@@ -30,7 +30,7 @@ use Rattle.dem_parts.specs.Kinds.{kindAt, contextOf as numbersOf}
 use Rattle.format.specs.Codec.{readAll}
 use Rattle.dem.specs.Recording.{angleLayout, readMessage, messages, readBlock}
 use Rattle.format.proofs.ResultLaws.{clash}
-use Rattle.format.proofs.LayoutLaws.{and-true}
+use Rattle.format.proofs.LayoutLaws.{and-true, both-false}
 use Rattle.format.proofs.ByteLaws.{bytes-of, take-bytes}
 use Rattle.dem.proofs.RangeLaws.{range→}
 use Rattle.dem_framing.proofs.HeadLaws.{block-ended}
@@ -42,7 +42,7 @@ use Rattle.dem_direct.specs.Spread.{needlessIn}
 use Rattle.dem_direct.specs.Heads.{HeadLoaded, FieldsLoaded}
 use Rattle.dem_direct.specs.declared.LoadedHead.{LoadedHead}
 use Rattle.dem_direct.specs.declared.RecordAt.{RecordAt}
-use Rattle.dem_direct.proofs.QuickLaws.{QuickUpdate, quick-update}
+use Rattle.dem_direct.proofs.LoadLaws.{LoadedUpdate, loaded-update}
 use Rattle.dem_reader.specs.Passed.{isPassed}
 use Rattle.dem_reader.proofs.Passing.{Passed, passed-read}
 use Rattle.dem_normal.specs.Put.{Behind}
@@ -50,7 +50,7 @@ use Rattle.dem_blocks.specs.Runs.{Told, refusedIn, answered, Wrote, stor
 use Rattle.dem_blocks.specs.declared.WrittenAt.{WrittenAt}
 use Rattle.dem_blocks.specs.Marks.{marked}
 use Rattle.dem_blocks.proofs.Marks.{Within, within-more, within-bits, marked-set, marked-none, marked-bits, Before, before-later, before-marked, before-timed}
-use Rattle.dem_blocks.proofs.SoFar.{and-false, or-false, far-begins, Grown, grown-kept, grown-behind}
+use Rattle.dem_blocks.proofs.SoFar.{and-false, far-begins, Grown, grown-kept, grown-behind}
 use Rattle.dem_blocks.proofs.Turns.{Moved, before-stop, head-refused, head-found, moved-less, moved-short, moved-range, block-length, put-block-there, put-length, closed, closed-short, closed-fits, inside, on-refused, on-moved, on-end, run-over, run-refused, run-opened}
 use Rattle.dem_blocks.proofs.Arms.{held, noBaseline, filled-moved, kept-form, ended-refused, kind-parsed, parsed-refused, update-parsed, update-known, update-moved, time-moved, ClientRead, client-read, kept-client, client-moved, sound-moved, passed-parsed, passed-moved, other-parsed, baseline-known, baseline-moved, serverinfo-moved, cleared-present, rest-moved}
 use Rattle.dem_blocks.proofs.write_blocks.Statement.{statement}
@@ -421,8 +421,8 @@ module _ {o : Opened} (p : Place o) (h : LoadedHead) (f : RecordAt) (l : Loaded 
   abbrev baseline : Baseline
   baseline = getD (p .baselines) (h .index) noBaseline
 
-  at-once : QuickUpdate (input (blockOf o)) (end o) (p .at) baseline h f
-  at-once = quick-update (input (blockOf o)) (end o) (p .at) baseline (within o) (byte-fits (blockOf o)) h f (l .head) (l .fields)
+  at-once : LoadedUpdate (input (blockOf o)) (end o) (p .at) baseline h f
+  at-once = loaded-update (input (blockOf o)) (end o) (p .at) baseline (within o) (byte-fits (blockOf o)) h f (l .head) (l .fields)
 
   number-there : getD (input (blockOf o)) (p .at) 0 ≡ getD (body o) (p .at) 0
   number-there = sym (getD-take (end o) (input (blockOf o)) (p .at) 0 (omega (arith, p .inside, body-long o)))
@@ -560,7 +560,7 @@ head-written : (c : HeadWritten)
     HeadLoaded (input (blockOf (opening (c .before .before .before .before)))) (w .at) h × (h .head .needless ≡ false)
 head-written c =
     let h = c .before .before .load-head in
-    let t = or-false (h .result .left) (h .result .head .needless) (c .if4 .left) in
+    let t = both-false (h .result .left) (h .result .head .needless) (c .if4 .left) in
     (h .ensures (t .0), t .1)
 
 -- Its fields were loaded too.

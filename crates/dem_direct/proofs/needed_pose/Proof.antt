@@ -155,8 +155,6 @@ returns-7 c =
     let z = c .before .before .before .before .before .before .before .before .before .short-or3 in
     let c′ = c .before .before .before .before .before .before .char-or3 in
     let p = pose-each (arg .d .now) (bit (arg .mask)) (arg .o) (arg .at) (arg .needless) (x .result .value) (a .result .value) (y .result .value) (b .result .value) (z .result .value) (c′ .result .value)
-    (x .result .next) (a .result .next) (y .result .next) (b .result .next) (z .result .next) (c′ .result .next)
-    (x .result .needless) (a .result .needless) (y .result .needless) (b .result .needless) (z .result .needless) (c′ .result .needless)
     (c .before .before .before .before .before .struct-told7 .given .0 .1, fo .0 .1, (x .ensures .0, x .ensures .1 .0, x .ensures .1 .1 .0))
     (c .before .before .before .before .struct-told8 .given .0 .1, fo .1 .0 .1, (a .ensures .0, a .ensures .1 .0, a .ensures .1 .1 .0))
     (c .before .before .before .struct-told9 .given .0 .1, fo .1 .1 .0 .1, (y .ensures .0, y .ensures .1 .0, y .ensures .1 .1 .0))

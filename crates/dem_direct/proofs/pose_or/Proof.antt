@@ -1,5 +1,7 @@
 -- `dem_direct::pose_or` meets its contract: its fields follow the slots one by one.
 -- Assumes nothing.
+use mathlib.Core.Path.{refl}
+use mathlib.Core.Bool.{false}
 use Rattle.format.specs.Bytes.{bit}
 use Rattle.dem_direct.proofs.Fields.{pose-each}
 use native.Mathlib.Omega.{arith}
@@ -49,9 +51,6 @@ char-or-requires-3 c κs = (
 returns : tie.Need-returns
 returns c =
     let arg = c .before .before .before .before .before .before .before .before .before .before .before .before .before .before .before .before .before .before .before .args in
-    let d = arg .d .now in
-    let m = bit (arg .mask) in
-    let o = arg .other in
     let fo = c .before .before .before .before .before .before .before .struct-told6 .given in
     let x = c .before .before .before .before .before .before .before .before .before .before .before .before .before .before .before .before .short-or in
     let a = c .before .before .before .before .before .before .before .before .before .before .before .before .before .before .char-or in
@@ -59,20 +58,14 @@ returns c =
     let b = c .before .before .before .before .before .before .before .before .before .before .char-or2 in
     let z = c .before .before .before .before .before .before .before .before .short-or3 in
     let c′ = c .before .before .before .before .before .before .char-or3 in
-    let s7 = c .before .before .before .before .before .struct-told7 .given in
-    let s8 = c .before .before .before .before .struct-told8 .given in
-    let s9 = c .before .before .before .struct-told9 .given in
-    let s10 = c .before .before .struct-told10 .given in
-    let p = pose-each d m o (arg .at) (arg .needless) (x .result .value) (a .result .value) (y .result .value) (b .result .value) (z .result .value) (c′ .result .value)
-    (x .result .next) (a .result .next) (y .result .next) (b .result .next) (z .result .next) (c′ .result .next)
-    (x .result .needless) (a .result .needless) (y .result .needless) (b .result .needless) (z .result .needless) (c′ .result .needless)
-    (s7 .0 .1, fo .0 .1, (x .ensures .0, x .ensures .1 .0, x .ensures .1 .1 .0))
-    (s8 .0 .1, fo .1 .0 .1, (a .ensures .0, a .ensures .1 .0, a .ensures .1 .1 .0))
-    (s9 .0 .1, fo .1 .1 .0 .1, (y .ensures .0, y .ensures .1 .0, y .ensures .1 .1 .0))
-    (s10 .0 .1, fo .1 .1 .1 .0 .1, (b .ensures .0, b .ensures .1 .0, b .ensures .1 .1 .0))
-    (c .before .struct-told11 .given .0 .1, fo .1 .1 .1 .1 .0 .1, (z .ensures .0, z .ensures .1 .0, z .ensures .1 .1 .0))
-    (c .struct-told12 .given .0 .1, fo .1 .1 .1 .1 .1 .0 .1, (c′ .ensures .0, c′ .ensures .1 .0, c′ .ensures .1 .1 .0)) in
-    (p .0, (p .1, p .2))
+    let p = pose-each (arg .d .now) (bit (arg .mask)) (arg .other) (arg .at) false (x .result .value) (a .result .value) (y .result .value) (b .result .value) (z .result .value) (c′ .result .value)
+    (c .before .before .before .before .before .struct-told7 .given .0 .1, fo .0 .1, (x .ensures .0, x .ensures .1 .0, refl))
+    (c .before .before .before .before .struct-told8 .given .0 .1, fo .1 .0 .1, (a .ensures .0, a .ensures .1 .0, refl))
+    (c .before .before .before .struct-told9 .given .0 .1, fo .1 .1 .0 .1, (y .ensures .0, y .ensures .1 .0, refl))
+    (c .before .before .struct-told10 .given .0 .1, fo .1 .1 .1 .0 .1, (b .ensures .0, b .ensures .1 .0, refl))
+    (c .before .struct-told11 .given .0 .1, fo .1 .1 .1 .1 .0 .1, (z .ensures .0, z .ensures .1 .0, refl))
+    (c .struct-told12 .given .0 .1, fo .1 .1 .1 .1 .1 .0 .1, (c′ .ensures .0, c′ .ensures .1 .0, refl)) in
+    (p .0, p .1)
 
 pub pose-or-spec : {M : Type 1} → statement M
 pose-or-spec =

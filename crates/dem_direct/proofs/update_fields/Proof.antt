@@ -31,8 +31,8 @@ returns c =
     let l = c .before .before .before .look-chosen in
     let p = c .before .before .pose-or in
     let q = slots-then (a .d .now) m (lookSlots (a .b .look)) (poseSlots (a .b .pose)) (a .h .next) false
-    (lookOf (l .result)) (l .result .next) (l .result .needless) (poseValues (p .result .pose)) (p .result .next) _
-    (l .ensures .0, l .ensures .1 .0, l .ensures .1 .1 .0) (p .ensures .0, p .ensures .1 .0, refl) in
+    (lookOf (l .result)) (l .result .next) _ (poseValues (p .result .pose)) (p .result .next) _
+    (l .ensures .0, l .ensures .1 .0, refl) (p .ensures .0, p .ensures .1, refl) in
     λ z. record {
       fields = c .record-of .ensures ∙ (λ i. number (bitOf (m recordBit)) ∷ q .0 i);
       next = q .1;

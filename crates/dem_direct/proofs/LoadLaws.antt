@@ -94,7 +94,7 @@ high-good high n h =
 
 -- What the block holds at the place of an update's number: an update that ends where the fields did, and fills in to their record; and
 -- where nothing was sent needlessly, it is its own normal form.
-pub record QuickUpdate (d : List ℕ) (end at : ℕ) (b : Baseline) (h : LoadedHead) (f : RecordAt) : Type 0 where
+pub record LoadedUpdate (d : List ℕ) (end at : ℕ) (b : Baseline) (h : LoadedHead) (f : RecordAt) : Type 0 where
   pub high : ℕ
   pub sent : List Value
   pub parsed : parse (updateLayout (getD d at 0)) (drop (at + 1) (take end d))
@@ -177,10 +177,10 @@ module _ (d : List ℕ) (end at n : ℕ) (b : Baseline) (inside : end ≤ length
       update-kept d (baselineNumbers b) n high entity next small update low needed lacking
       (narrow (omega (arith, passed-up slots (bit mask) next)) bytes) every
 
-pub quick-update : (d : List ℕ) (end at : ℕ) (b : Baseline) → end ≤ length d → ((i : ℕ) → getD d i 0 < 256) → (h : LoadedHead) (f : RecordAt)
-    → HeadLoaded d at h → FieldsLoaded d (h .head) b end f → QuickUpdate d end at b h f
+pub loaded-update : (d : List ℕ) (end at : ℕ) (b : Baseline) → end ≤ length d → ((i : ℕ) → getD d i 0 < 256) → (h : LoadedHead) (f : RecordAt)
+    → HeadLoaded d at h → FieldsLoaded d (h .head) b end f → LoadedUpdate d end at b h f
 unfolding headAt slots mask entity next place high
-quick-update d end at b inside bytes h f l r =
+loaded-update d end at b inside bytes h f l r =
     let n = getD d at 0 in
     let small : n < 256 = bytes at in
     let v = high d end (at + 1) n b inside small in

@@ -386,11 +386,14 @@ pub fn write_blocks(
                 }
                 let i = q.index;
                 let b = baselines[i];
-                let f = dem_direct::needed_fields(d, q.head, b, end);
+                let f = dem_direct::needed_fields(d, q.head, b);
                 if f.left {
                     break;
                 }
                 let to = f.next;
+                if end < to {
+                    break;
+                }
                 let record = f.record;
                 records[i] = record;
                 marks[i] = to;

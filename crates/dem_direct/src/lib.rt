@@ -498,19 +498,11 @@ pub fn update_fields(d: &[u8], h: UpdateHead, b: Baseline, end: usize) -> Record
     }
 }
 
-fn is_left(needless: bool, end: usize, next: usize) -> bool
-    ensures { λ r. ⌜ (r ≡ false → (needless ≡ false) × (next ≤ end)) ⌝ }
-{
-    if needless {
-        return true;
-    }
-    end < next
-}
-
-// The same, but one with a needless field is left, too: behind its look, or at its first needless coordinate or angle.
-pub fn needed_fields(d: &[u8], h: UpdateHead, b: Baseline, end: usize) -> RecordAt
+// The same of an update in normal form: one with a needless field is left, behind its look or at its first needless coordinate or angle.
+// Where it ends is not asked.
+pub fn needed_fields(d: &[u8], h: UpdateHead, b: Baseline) -> RecordAt
     requires { ⌜ h .next + 14 ≤ length (now d) ⌝ }
-    ensures { λ r. ⌜ (r .left ≡ false → FieldsLoaded (now (d .entry)) h b end r) ⌝ }
+    ensures { λ r. ⌜ (r .left ≡ false → FieldsLoaded (now (d .entry)) h b (r .next) r) ⌝ }
     ensures needed { λ r. ⌜ (r .left ≡ false → needlessIn (now (d .entry)) (updateSlots (baselineNumbers b)) (bit (h .mask)) (h .next) false ≡ false) ⌝ }
 {
     let mask = h.mask;
@@ -521,7 +513,7 @@ pub fn needed_fields(d: &[u8], h: UpdateHead, b: Baseline, end: usize) -> Record
     let pose = p.pose;
     let record = record_of(mask, look, l, pose);
     RecordAt {
-        left: is_left(p.needless, end, next),
+        left: p.needless,
         record,
         next,
     }

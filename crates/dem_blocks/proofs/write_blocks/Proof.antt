@@ -568,7 +568,7 @@ abbrev FoundWritten : Type 0
 FoundWritten = tie.After-record Inv-loop3 μ-loop3 Inv-loop4 μ-loop4 Inv-loop2 μ-loop2 Inv-loop μ-loop
 
 abbrev headed : FoundWritten → HeadWritten
-headed c = c .before .before .before .before
+headed c = c .before .before .before .before .before
 
 abbrev writing : FoundWritten → ToWrite
 writing c = headed c .before .before .before
@@ -577,11 +577,12 @@ abbrev headWritten : FoundWritten → LoadedHead
 headWritten c = headed c .before .before .load-head .result
 
 abbrev fieldsWritten : FoundWritten → RecordAt
-fieldsWritten c = c .before .before .needed-fields .result
+fieldsWritten c = c .before .before .before .needed-fields .result
 
 found-written : (c : FoundWritten) → Loaded (writePlace (writing c)) (headWritten c) (fieldsWritten c)
 found-written c =
-    record { head = head-written (headed c) .0; fields = c .before .before .needed-fields .ensures .0 (c .before .if5 .left) }
+    let f = c .before .before .before .needed-fields .ensures .0 (c .before .before .if5 .left) in
+    record { head = head-written (headed c) .0; fields = record { fields = f .fields; next = f .next; ends = c .before .if6 .left } }
 
 -- ---- an update that is only read
 
@@ -620,14 +621,14 @@ fieldsRead c = c .before .before .update-fields .result
 found-read : (c : FoundRead) → Loaded (readPlace (reading c)) (headRead c) (fieldsRead c)
 found-read c =
     record {
-      head = c .before .before .before .before .before .load-head2 .ensures (c .before .before .before .before .if6 .left);
-      fields = c .before .before .update-fields .ensures (c .before .if7 .left);
+      head = c .before .before .before .before .before .load-head2 .ensures (c .before .before .before .before .if7 .left);
+      fields = c .before .before .update-fields .ensures (c .before .if8 .left);
     }
 
 -- ---- where another message is to be read
 
 abbrev AtMessage : Type 0
-AtMessage = tie.Else8 Inv-loop3 μ-loop3 Inv-loop4 μ-loop4 Inv-loop2 μ-loop2 Inv-loop μ-loop
+AtMessage = tie.Else9 Inv-loop3 μ-loop3 Inv-loop4 μ-loop4 Inv-loop2 μ-loop2 Inv-loop μ-loop
 
 abbrev inBlock : AtMessage → Opened
 inBlock c = opening (c .before .before .before .before)
@@ -635,7 +636,7 @@ inBlock c = opening (c .before .before .before .before)
 abbrev message : (c : AtMessage) → Place (inBlock c)
 message c =
     let l = c .before .before .loop4 in
-    placeIn (c .before .before .before .before) (l .records) (l .marks) (l .messages) (l .at) (reached-read (c .before .before)) (c .if8 .left)
+    placeIn (c .before .before .before .before) (l .records) (l .marks) (l .messages) (l .at) (reached-read (c .before .before)) (c .if9 .left)
 
 -- It lies no further back than where the turn began.
 ahead : (c : AtMessage) → turn (c .before .before .before .before) .loop2 .at ≤ message c .at
@@ -695,7 +696,7 @@ sound-parsed c =
     let x = contextOf (scene (message (soundAt c))) in
     kind-here (message (soundAt c)) Kind.sound x _ (c .sound-turn .result .cursor) (sym (c .before .before .match .keys1)) refl no-static-sound refl (c .sound-turn .ensures .0 x)
 
-sound-step : (c : tie.Then9 Inv-loop3 μ-loop3 Inv-loop4 μ-loop4 Inv-loop2 μ-loop2 Inv-loop μ-loop)
+sound-step : (c : tie.Then10 Inv-loop3 μ-loop3 Inv-loop4 μ-loop4 Inv-loop2 μ-loop2 Inv-loop μ-loop)
     → let r = c .before .before in
     let t = r .sound-turn .result in
     Step (message (soundAt r)) (scene (message (soundAt r))) (t .cursor .at) (r .sound-turn .last .1 .0) (t .size) (t .kept)
@@ -704,7 +705,7 @@ sound-step c =
     let k = message (soundAt r) in
     let t = r .sound-turn in
     behind-step k _ (t .result .cursor .at) _
-    (sound-moved (body (inBlock (soundAt r))) (k .at) (k .inside) (k .baselines) (k .records) (present k) (k .rest) (k .going) (t .result .heard) (t .result .cursor) (sound-parsed r) (c .if9 .taken))
+    (sound-moved (body (inBlock (soundAt r))) (k .at) (k .inside) (k .baselines) (k .records) (present k) (k .rest) (k .going) (t .result .heard) (t .result .cursor) (sound-parsed r) (c .if10 .taken))
     _ (λ e. e) (λ on e. sent-always (sym on ∙ e)) _ _ _ (t .ensures .1 (contextOf (scene k)))
 
 -- A time.
@@ -730,7 +731,7 @@ time-read c =
     let r = c .before .before in
     let k = message (timeAt r) in
     time-moved (body (inBlock (timeAt r))) (k .at) (k .inside) (k .baselines) (k .records) (present k) (k .rest) (k .going) (body-bytes (inBlock (timeAt r))) (r .time-at .result .value) (c .with-time .result)
-    (r .time-at .result .cursor) (time-parsed r) (c .before .if10 .taken) (c .with-time .ensures)
+    (r .time-at .result .cursor) (time-parsed r) (c .before .if11 .taken) (c .with-time .ensures)
 
 -- Clientdata.
 abbrev ClientTaken : Type 0
@@ -767,7 +768,7 @@ client-step c =
     let k = message (clientDataAt r) in
     let s = body (inBlock (clientDataAt r)) in
     let t = r .client-turn in
-    let good = c .before .if11 .taken in
+    let good = c .before .if12 .taken in
     behind-step k _ (t .result .cursor .at) _
     (client-moved s (k .at) (k .inside) (k .baselines) (k .records) (present k) (k .rest) (k .going) _ (t .result .client) (c .with-client .result) (t .result .cursor) (client-parsed r) good (client-here r .filled good) (c .with-client .ensures))
     _ (λ e. and-true _ _ e .0)
@@ -784,10 +785,10 @@ passedAt c = at (c .before .before .before .before .before)
 abbrev passedKind : Passing → ℕ
 passedKind c = getD (body (inBlock (passedAt c))) (message (passedAt c) .at) 0
 
-passes : (c : tie.Then13 Inv-loop3 μ-loop3 Inv-loop4 μ-loop4 Inv-loop2 μ-loop2 Inv-loop μ-loop)
+passes : (c : tie.Then14 Inv-loop3 μ-loop3 Inv-loop4 μ-loop4 Inv-loop2 μ-loop2 Inv-loop μ-loop)
     → let m = at (c .before .before .before .before) in
     isPassed (getD (body (inBlock m)) (message m .at) 0) ≡ true
-passes c = sym (c .before .is-passed .ensures) ∙ c .if13 .taken
+passes c = sym (c .before .is-passed .ensures) ∙ c .if14 .taken
 
 passed-here : (c : Passing) → Passed (body (inBlock (passedAt c))) (here (message (passedAt c) .at + 1)) (numbersOf (c .before .before .before .before .before .context .result)) (passedKind c) (c .pass-message .result)
 passed-here c = passed-read (body (inBlock (passedAt c))) (here (message (passedAt c) .at + 1)) _ (passedKind c) (c .pass-message .result) (c .pass-message .ensures)
@@ -798,7 +799,7 @@ pass-parsed c =
     passed-parsed (body (inBlock (passedAt c))) (p .at) (p .inside) (p .baselines) (p .records) (present p) (p .rest) (p .going) (passedKind c) (passes (c .before)) refl _
     (c .before .before .before .before .before .context .ensures _ _ _) (passed-here c .values) (c .pass-message .result) (passed-here c .read)
 
-pass-step : (c : tie.Then14 Inv-loop3 μ-loop3 Inv-loop4 μ-loop4 Inv-loop2 μ-loop2 Inv-loop μ-loop)
+pass-step : (c : tie.Then15 Inv-loop3 μ-loop3 Inv-loop4 μ-loop4 Inv-loop2 μ-loop2 Inv-loop μ-loop)
     → let p = message (passedAt (c .before)) in
     Step p (scene p) (c .before .pass-message .result .at) (p .filled) (p .size) (p .kept)
 pass-step c =
@@ -806,7 +807,7 @@ pass-step c =
     let p = message (passedAt r) in
     kept-step p (scene p) (r .pass-message .result .at) _
     (passed-moved (body (inBlock (passedAt r))) (p .at) (p .inside) (p .baselines) (p .records) (present p) (p .rest) (p .going) (body-bytes (inBlock (passedAt r))) (passedKind r) (passes (r .before))
-    (passed-here r .values) (r .pass-message .result) (pass-parsed r) (c .if14 .taken)) (λ on. refl)
+    (passed-here r .values) (r .pass-message .result) (pass-parsed r) (c .if15 .taken)) (λ on. refl)
 
 -- Another message.
 abbrev OtherRead : Type 0
@@ -832,7 +833,7 @@ abbrev matched : OtherRead → tie.At-match-rest Inv-loop3 μ-loop3 Inv-loop4 μ
 matched c = c .before .before .before .before
 
 abbrev OtherFound : Type 0
-OtherFound = tie.Then15 Inv-loop3 μ-loop3 Inv-loop4 μ-loop4 Inv-loop2 μ-loop2 Inv-loop μ-loop
+OtherFound = tie.Then16 Inv-loop3 μ-loop3 Inv-loop4 μ-loop4 Inv-loop2 μ-loop2 Inv-loop μ-loop
 
 -- The entity of a baseline is known.
 abbrev BaselineRead : Type 0
@@ -846,7 +847,7 @@ baseline-entity c =
     let r = baselineFound c .before in
     let p = otherPlace r in
     baseline-known (body (inBlock (otherAt r))) (p .at) (p .inside) (p .baselines) (p .records) (present p) (p .rest) (p .going) (body-bytes (inBlock (otherAt r))) _
-    (other-context r) (r .read-message .result .message) (r .read-message .result .cursor) (r .read-message .ensures) (baselineFound c .if15 .taken) _ _ _
+    (other-context r) (r .read-message .result .message) (r .read-message .result .cursor) (r .read-message .ensures) (baselineFound c .if16 .taken) _ _ _
     (c .message .given .1)
 
 abbrev BaselineIndexed : Type 0
@@ -871,7 +872,7 @@ baseline-step c =
     kept-step k _ (r .read-message .result .cursor .at) _
     (subst (λ (i : ℕ). Moved s (scene k) (k .at) (held (set (k .baselines) i b) (k .records) (present k) (k .rest)) (r .read-message .result .cursor .at) (take (r .read-message .result .cursor .at - k .at) (drop (k .at) s))) (sym (c .index-of .ensures))
     (baseline-moved s (k .at) (k .inside) (k .baselines) (k .records) (present k) (k .rest) (k .going) (body-bytes (inBlock (otherAt r))) _ (other-context r) (r .read-message .result .message) (r .read-message .result .cursor)
-    (r .read-message .ensures) (f .if15 .taken) (λ z. matched r .match .rest .0 .0 .1 (sym z)) (λ z. matched r .match .rest .1 (sym z)) (r .before .before .before .if12 .taken) _ _ _ (m .message .given .1)))
+    (r .read-message .ensures) (f .if16 .taken) (λ z. matched r .match .rest .0 .0 .1 (sym z)) (λ z. matched r .match .rest .1 (sym z)) (r .before .before .before .if13 .taken) _ _ _ (m .message .given .1)))
     (λ on. refl)
 
 abbrev ServerinfoTaken : Type 0
@@ -895,7 +896,7 @@ serverinfo-read c =
     let k = otherPlace r in
     let t = clearing c .cleared-scene .result in
     serverinfo-moved (body (inBlock (otherAt r))) (k .at) (k .inside) (k .baselines) (k .records) (present k) (k .rest) (k .going) (body-bytes (inBlock (otherAt r))) _ (other-context r) (r .read-message .result .message) (r .read-message .result .cursor)
-    (r .read-message .ensures) (f .if15 .taken) (λ z. matched r .match .rest .0 .0 .1 (sym z)) (λ z. matched r .match .rest .1 (sym z)) (r .before .before .before .if12 .taken) _ _ (clearing c .before .before .message2 .given .1)
+    (r .read-message .ensures) (f .if16 .taken) (λ z. matched r .match .rest .0 .0 .1 (sym z)) (λ z. matched r .match .rest .1 (sym z)) (r .before .before .before .if13 .taken) _ _ (clearing c .before .before .message2 .given .1)
     (cleared-present (t .baselines) (t .records) (t .present) (t .rest) _ (clearing c .cleared-scene .ensures))
 
 -- The messages but serverinfo and baseline, by their places in the list of messages.
@@ -913,12 +914,12 @@ rest-step c =
     let k = otherPlace r in
     kept-step k _ (r .read-message .result .cursor .at) _
     (rest-moved (body (inBlock (otherAt r))) (k .at) (k .inside) (k .baselines) (k .records) (present k) (k .rest) (k .going) (body-bytes (inBlock (otherAt r))) _ (other-context r) (r .read-message .result .message) (r .read-message .result .cursor)
-    (r .read-message .ensures) (f .if15 .taken) (λ z. matched r .match .rest .0 .0 .1 (sym z)) (λ z. matched r .match .rest .1 (sym z)) (r .before .before .before .if12 .taken) neither (c .before .match2 .keys3) tt tt (λ z. matched r .match .rest .0 .1 (sym z))
+    (r .read-message .ensures) (f .if16 .taken) (λ z. matched r .match .rest .0 .0 .1 (sym z)) (λ z. matched r .match .rest .1 (sym z)) (r .before .before .before .if13 .taken) neither (c .before .match2 .keys3) tt tt (λ z. matched r .match .rest .0 .1 (sym z))
     (c .apply-rest .result) (c .apply-rest .ensures)) (λ on. refl)
 
 -- An update that is to be put anew was loaded again.
 abbrev ToLoad : Type 0
-ToLoad = tie.Then16 Inv-loop3 μ-loop3 Inv-loop4 μ-loop4 Inv-loop2 μ-loop2 Inv-loop μ-loop
+ToLoad = tie.Then17 Inv-loop3 μ-loop3 Inv-loop4 μ-loop4 Inv-loop2 μ-loop2 Inv-loop μ-loop
 
 abbrev loadAt : ToLoad → AtMessage
 loadAt c = at (c .before .before .before)
@@ -928,15 +929,15 @@ to-load : (c : ToLoad)
 to-load c =
     let m = loadAt c in
     let o = inBlock m in
-    before-stop (begun (blockOf o) .args .on) (length (input (blockOf o))) (end o) _ (message m .at) (turn (m .before .before .before .before) .before .before .loaded-until .ensures) (c .if16 .taken)
+    before-stop (begun (blockOf o) .args .on) (length (input (blockOf o))) (end o) _ (message m .at) (turn (m .before .before .before .before) .before .before .loaded-until .ensures) (c .if17 .taken)
 
 abbrev HeadAgain : Type 0
-HeadAgain = tie.Then17 Inv-loop3 μ-loop3 Inv-loop4 μ-loop4 Inv-loop2 μ-loop2 Inv-loop μ-loop
+HeadAgain = tie.Then18 Inv-loop3 μ-loop3 Inv-loop4 μ-loop4 Inv-loop2 μ-loop2 Inv-loop μ-loop
 
 head-again : (c : HeadAgain)
     → let m = loadAt (c .before .before .before) in
     HeadLoaded (input (blockOf (inBlock m))) (message m .at) (c .before .before .load-head3 .result)
-head-again c = c .before .before .load-head3 .ensures (not-true _ (c .if17 .taken))
+head-again c = c .before .before .load-head3 .ensures (not-true _ (c .if18 .taken))
 
 abbrev Again : Type 0
 Again = tie.After-record3 Inv-loop3 μ-loop3 Inv-loop4 μ-loop4 Inv-loop2 μ-loop2 Inv-loop μ-loop
@@ -955,7 +956,7 @@ fieldsAgain c = c .before .before .before .update-fields2 .result
 
 again : (c : Again) → Loaded (message (againAt c)) (headAgain c) (fieldsAgain c)
 again c =
-    record { head = head-again (againHead c); fields = c .before .before .before .update-fields2 .ensures (not-true _ (c .before .if18 .taken)) }
+    record { head = head-again (againHead c); fields = c .before .before .before .update-fields2 .ensures (not-true _ (c .before .if19 .taken)) }
 
 moves-again : (c : Again) → message (againAt c) .at < fieldsAgain c .next
 moves-again c = loaded-less (message (againAt c)) (headAgain c) (fieldsAgain c) (again c)
@@ -989,16 +990,16 @@ updateAt c = at (c .before .before .before .before)
 update-read : (c : UpdateTaken) → Parsed (message (updateAt c)) (updateValues (c .read-update .result .update)) (c .read-update .result .cursor)
 update-read c =
     let p = message (updateAt c) in
-    update-parsed (body (inBlock (updateAt c))) (p .at) (p .inside) (p .baselines) (p .records) (present p) (p .rest) (p .going) (body-bytes (inBlock (updateAt c))) _ refl (c .before .before .if12 .left)
+    update-parsed (body (inBlock (updateAt c))) (p .at) (p .inside) (p .baselines) (p .records) (present p) (p .rest) (p .going) (body-bytes (inBlock (updateAt c))) _ refl (c .before .before .if13 .left)
     (c .read-update .result .update) (c .read-update .result .cursor) (c .read-update .ensures)
 
 -- Its entity is known.
-update-entity : (c : tie.Then19 Inv-loop3 μ-loop3 Inv-loop4 μ-loop4 Inv-loop2 μ-loop2 Inv-loop μ-loop) → c .before .read-update .result .update .entity .0 < entityCount
+update-entity : (c : tie.Then20 Inv-loop3 μ-loop3 Inv-loop4 μ-loop4 Inv-loop2 μ-loop2 Inv-loop μ-loop) → c .before .read-update .result .update .entity .0 < entityCount
 update-entity c =
     let r = c .before in
     let p = message (updateAt r) in
-    update-known (body (inBlock (updateAt r))) (p .at) (p .inside) (p .baselines) (p .records) (present p) (p .rest) (p .going) (body-bytes (inBlock (updateAt r))) _ refl (r .before .before .if12 .left)
-    (r .read-update .result .update) (r .read-update .result .cursor) (r .read-update .ensures) (c .if19 .taken)
+    update-known (body (inBlock (updateAt r))) (p .at) (p .inside) (p .baselines) (p .records) (present p) (p .rest) (p .going) (body-bytes (inBlock (updateAt r))) _ refl (r .before .before .if13 .left)
+    (r .read-update .result .update) (r .read-update .result .cursor) (r .read-update .ensures) (c .if20 .taken)
 
 abbrev UpdateIndexed : Type 0
 UpdateIndexed = tie.After-index-of2 Inv-loop3 μ-loop3 Inv-loop4 μ-loop4 Inv-loop2 μ-loop2 Inv-loop μ-loop
@@ -1026,8 +1027,8 @@ update-found c =
     let r = indexed c .before .before in
     let k = message (sentAt c) in
     let t = c .before .before .update-turn in
-    update-moved (body (inBlock (sentAt c))) (k .at) (k .inside) (k .baselines) (k .records) (present k) (k .rest) (k .going) (body-bytes (inBlock (sentAt c))) _ refl (r .before .before .if12 .left) (r .read-update .result .update) (r .read-update .result .cursor)
-    (r .read-update .ensures) (indexed c .before .if19 .taken) (indexed c .index-of2 .result) (indexed c .index-of2 .ensures) (t .result .record) (t .ensures .0)
+    update-moved (body (inBlock (sentAt c))) (k .at) (k .inside) (k .baselines) (k .records) (present k) (k .rest) (k .going) (body-bytes (inBlock (sentAt c))) _ refl (r .before .before .if13 .left) (r .read-update .result .update) (r .read-update .result .cursor)
+    (r .read-update .ensures) (indexed c .before .if20 .taken) (indexed c .index-of2 .result) (indexed c .index-of2 .ensures) (t .result .record) (t .ensures .0)
 
 update-less : (c : UpdateStored) → message (sentAt c) .at < indexed c .before .before .read-update .result .cursor .at
 update-less c = omega (arith, less (message (sentAt c)) _ (indexed c .before .before .read-update .result .cursor .at) _ (update-found c))
@@ -1067,14 +1068,14 @@ refuse-read c =
     refuse-parsed k _ (w .2 .result .cursor) (client-parsed (record { before = record { before = record { before = c .before; match = w .0 }; body3 = w .1 }; client-turn = w .2 })) (w .4 .left) _ (w .5))
     (⊎-elim
     (λ w.
-    let p : tie.After-is-passed Inv-loop3 μ-loop3 Inv-loop4 μ-loop4 Inv-loop2 μ-loop2 Inv-loop μ-loop = record { before = record { before = record { before = c .before; match = w .0 }; if12 = w .1 }; is-passed = w .2 } in
-    refuse-parsed k _ (w .4 .result) (pass-parsed (record { before = record { before = p; if13 = w .3 }; pass-message = w .4 })) (w .5 .left) _ (w .6))
+    let p : tie.After-is-passed Inv-loop3 μ-loop3 Inv-loop4 μ-loop4 Inv-loop2 μ-loop2 Inv-loop μ-loop = record { before = record { before = record { before = c .before; match = w .0 }; if13 = w .1 }; is-passed = w .2 } in
+    refuse-parsed k _ (w .4 .result) (pass-parsed (record { before = record { before = p; if14 = w .3 }; pass-message = w .4 })) (w .5 .left) _ (w .6))
     (⊎-elim
     (λ w.
-    let p : tie.After-is-passed Inv-loop3 μ-loop3 Inv-loop4 μ-loop4 Inv-loop2 μ-loop2 Inv-loop μ-loop = record { before = record { before = record { before = c .before; match = w .0 }; if12 = w .1 }; is-passed = w .2 } in
-    refuse-parsed k _ (w .4 .result .cursor) (other-read (record { before = record { before = p; if13 = w .3 }; read-message = w .4 })) (w .5 .left) _ (w .6))
+    let p : tie.After-is-passed Inv-loop3 μ-loop3 Inv-loop4 μ-loop4 Inv-loop2 μ-loop2 Inv-loop μ-loop = record { before = record { before = record { before = c .before; match = w .0 }; if13 = w .1 }; is-passed = w .2 } in
+    refuse-parsed k _ (w .4 .result .cursor) (other-read (record { before = record { before = p; if14 = w .3 }; read-message = w .4 })) (w .5 .left) _ (w .6))
     (λ w.
-    refuse-parsed k _ (w .3 .result .cursor) (update-read (record { before = record { before = record { before = record { before = c .before; match = w .0 }; if12 = w .1 }; if16 = w .2 }; read-update = w .3 })) (w .4 .left) _ (w .5))))))
+    refuse-parsed k _ (w .3 .result .cursor) (update-read (record { before = record { before = record { before = record { before = c .before; match = w .0 }; if13 = w .1 }; if17 = w .2 }; read-update = w .3 })) (w .4 .left) _ (w .5))))))
     (c .match .came)
 
 -- ---- where a block is at its end
@@ -1284,7 +1285,7 @@ loop3-again : tie.Need-loop3-again Inv-loop3 μ-loop3 Inv-loop4 μ-loop4 Inv-loo
 loop3-again c =
     let i = writing c .before .loop3 .inv in
     let p = writePlace (writing c) in
-    let q = loaded-on p (headWritten c) (fieldsWritten c) (found-written c) (λ on. (c .before .before .needed-fields .ensures .1 (c .before .if5 .left), head-written (headed c) .1)) in
+    let q = loaded-on p (headWritten c) (fieldsWritten c) (found-written c) (λ on. (c .before .before .before .needed-fields .ensures .1 (c .before .before .if5 .left), head-written (headed c) .1)) in
     ((q .0, q .1, q .2, q .3, i .0 .4 ∙ q .4, q .5, q .6), omega (arith, i .1, loaded-less p (headWritten c) (fieldsWritten c) (found-written c)))
 
 loop4-holds : tie.Need-loop4-holds Inv-loop3 μ-loop3 Inv-loop4 μ-loop4 Inv-loop2 μ-loop2 Inv-loop μ-loop
@@ -1296,13 +1297,13 @@ load-head-requires-2 : tie.Need-load-head-requires-2 Inv-loop3 μ-loop3 Inv-loop
 load-head-requires-2 c κs = omega (arith, to-read c .2)
 
 mul-b-2 : tie.Need-mul-b-2 Inv-loop3 μ-loop3 Inv-loop4 μ-loop4 Inv-loop2 μ-loop2 Inv-loop μ-loop
-mul-b-2 c = at-16 (c .before .load-head2 .ensures (c .if6 .left) .known)
+mul-b-2 c = at-16 (c .before .load-head2 .ensures (c .if7 .left) .known)
 
 array-copy-out-b-2 : tie.Need-array-copy-out-b-2 Inv-loop3 μ-loop3 Inv-loop4 μ-loop4 Inv-loop2 μ-loop2 Inv-loop μ-loop
-array-copy-out-b-2 c = c .before .load-head2 .ensures (c .if6 .left) .known
+array-copy-out-b-2 c = c .before .load-head2 .ensures (c .if7 .left) .known
 
 update-fields-requires : tie.Need-update-fields-requires Inv-loop3 μ-loop3 Inv-loop4 μ-loop4 Inv-loop2 μ-loop2 Inv-loop μ-loop
-update-fields-requires c κs = omega (arith, c .before .before .load-head2 .ensures (c .before .if6 .left) .near, to-read (c .before .before .before) .2)
+update-fields-requires c κs = omega (arith, c .before .before .load-head2 .ensures (c .before .if7 .left) .near, to-read (c .before .before .before) .2)
 
 mul-records-2 : tie.Need-mul-records-2 Inv-loop3 μ-loop3 Inv-loop4 μ-loop4 Inv-loop2 μ-loop2 Inv-loop μ-loop
 mul-records-2 c = at-18 (found-read c .head .known)
@@ -1331,7 +1332,7 @@ loop4-again c =
     ((q .0, q .1, q .2, q .3, i .0 .4 ∙ q .4, q .5, q .6), omega (arith, i .1, loaded-less p (headRead c) (fieldsRead c) (found-read c)))
 
 loop2-less : tie.Need-loop2-less Inv-loop3 μ-loop3 Inv-loop4 μ-loop4 Inv-loop2 μ-loop2 Inv-loop μ-loop
-loop2-less c = omega (arith, c .if8 .taken, c .before .before .before .before .before .before .loop2-test .taken)
+loop2-less c = omega (arith, c .if9 .taken, c .before .before .before .before .before .before .loop2-test .taken)
 
 loop2-again : tie.Need-loop2-again Inv-loop3 μ-loop3 Inv-loop4 μ-loop4 Inv-loop2 μ-loop2 Inv-loop μ-loop
 loop2-again c = reached-read (c .before .before)
@@ -1564,11 +1565,11 @@ same-length-3 c = let e = c .before .before .before .before .before in kept-leng
 returns-3 : tie.Need-returns-3 Inv-loop3 μ-loop3 Inv-loop4 μ-loop4 Inv-loop2 μ-loop2 Inv-loop μ-loop
 returns-3 c =
     let e = c .before .before .before .before .before in
-    let q = c .before .if20 .taken in
+    let q = c .before .if21 .taken in
     ap (wrote (c .refused-in3 .result)) (room-then e _ (e .end-block .ensures .1 .1 .0) true q) ∙ short e q (c .refused-in3 .result) (c .refused-in3 .ensures)
 
 add-written : tie.Need-add-written Inv-loop3 μ-loop3 Inv-loop4 μ-loop4 Inv-loop2 μ-loop2 Inv-loop μ-loop
-add-written c = let e = c .before .before .before .before .before in let o = closing e in omega (arith, enough e (c .before .if20 .left), blockOf o .before .loop .inv .5, begun (blockOf o) .fits .room)
+add-written c = let e = c .before .before .before .before .before in let o = closing e in omega (arith, enough e (c .before .if21 .left), blockOf o .before .loop .inv .5, begun (blockOf o) .fits .room)
 
 add-blocks : tie.Need-add-blocks Inv-loop3 μ-loop3 Inv-loop4 μ-loop4 Inv-loop2 μ-loop2 Inv-loop μ-loop
 add-blocks c = let o = closing (c .before .before .before .before .before) in omega (arith, more (blockOf o), begun (blockOf o) .fits .most)
@@ -1579,7 +1580,7 @@ loop-less c = omega (arith, more (blockOf (closing (c .before .before .before .b
 loop-again : tie.Need-loop-again Inv-loop3 μ-loop3 Inv-loop4 μ-loop4 Inv-loop2 μ-loop2 Inv-loop μ-loop
 loop-again c =
     let e = c .before .before .before .before .before in
-    let q = c .before .if20 .left in
+    let q = c .before .if21 .left in
     let o = closing e in
     let k = left e .loop2 in
     let a = begun (blockOf o) .args in

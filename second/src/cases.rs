@@ -130,12 +130,13 @@ impl State {
         }
     }
 
-    /// A stat or a print of two given numbers, or a nop.
+    /// A stat or a print of two given numbers, a temporary entity of four, or a nop.
     fn write(&mut self, bytes: &[u8], kind: usize, len: usize) {
         let number = |i: usize| bytes.get(i).copied().unwrap_or_default();
         let sent = match kind {
             3 => Message::Stat { index: number(0), value: number(1).into() },
             8 => Message::Print { text: Place { at: number(0).into(), len: number(1).into() } },
+            23 => Message::Temporary(temporary([0, 1, 2, 3].map(number))),
             _ => Message::Nop,
         };
         self.put(&sent, bytes, len);
@@ -386,6 +387,19 @@ impl State {
     }
 }
 
+/// A temporary entity by its type, its case and a line's entity; all else is zero.
+fn temporary([kind, case, low, high]: [u8; 4]) -> Temporary {
+    let origin = [0; 3];
+    match case {
+        0 => Temporary::Point { kind, origin },
+        1 => {
+            let entity = u16::from_le_bytes([low, high]);
+            Temporary::Line { kind, entity, start: origin, end: origin }
+        }
+        _ => Temporary::Explosion { origin, first_colour: 0, colour_count: 0 },
+    }
+}
+
 /// Nothing, a player's frags or colours, or all lines cleared.
 fn change_lines(lines: &mut [Player], kind: u8, player: u8, value: [u8; 2]) -> Result<(), Refusal> {
     let refuse = |number| Refusal { number, place: 0 };
@@ -474,6 +488,7 @@ fn named<T: Fields, S: Fields, C: Fields, U: Fields>(message: &Message<T, S, C, 
         Message::Baseline { .. } => "baseline",
         Message::Temporary(Temporary::Point { .. }) => "point",
         Message::Temporary(Temporary::Line { .. }) => "line",
+        Message::Temporary(Temporary::Explosion { .. }) => "explosion",
         Message::Pause { .. } => "pause",
         Message::Signon { .. } => "signon",
         Message::CenterPrint { .. } => "centerprint",

@@ -12,10 +12,11 @@ const USAGE: &str = "usage:
   second messages < RECORDING       a line a message
   second cases < LINES              what single calls answer
   second generate SEED INDEX        the INDEX-th generated input of a seed
+  second boundaries                 the names of the boundary cases, which are the first inputs
   second mix NAME SIZE_MB           a big made recording
   second bench [FILE...]            times reading and normalising
-  second compare [--mode normal|scene] [--count N] [--first I] [--seed S]
-                 [--keep DIR] [--pipe] [--again] [--no-recordings]
+  second compare [--mode normal|scene] [--count N] [--first I | --random]
+                 [--seed S] [--keep DIR] [--pipe] [--again] [--no-recordings]
                  PROGRAM [ARGS..]";
 
 type Outcome = Result<ExitCode, Box<dyn std::error::Error>>;
@@ -29,6 +30,7 @@ fn main() -> ExitCode {
         ["messages"] => messages(),
         ["cases"] => single_calls(),
         ["generate", seed, index] => generate(seed, index),
+        ["boundaries"] => boundaries(),
         ["mix", name, size] => make_mix(name, size),
         ["bench", ref files @ ..] => time_all(files),
         ["compare", ref rest @ ..] => run_compare(rest),
@@ -82,6 +84,11 @@ fn single_calls() -> Outcome {
 fn generate(seed: &str, index: &str) -> Outcome {
     let input = gen::generate(seed.parse()?, index.parse()?);
     output(&input.bytes)
+}
+
+fn boundaries() -> Outcome {
+    let names = (0..gen::boundary_count()).map(|index| gen::generate(0, index).name + "\n");
+    output(names.collect::<String>().as_bytes())
 }
 
 fn make_mix(name: &str, size: &str) -> Outcome {
@@ -144,6 +151,7 @@ fn compare_options(args: &[&str]) -> Result<Options, Box<dyn std::error::Error>>
             }
             "--seed" => options.seed = value()?.parse()?,
             "--first" => options.first = value()?.parse()?,
+            "--random" => options.first = gen::boundary_count(),
             "--count" => options.count = value()?.parse()?,
             "--keep" => options.keep = value()?.into(),
             "--pipe" => options.pipe = true,

@@ -435,11 +435,15 @@ impl Cursor<'_> {
         let kind = self.b()?;
         match kind {
             0..=4 | 7 | 8 | 10 | 11 => Ok(Temporary::Point { kind, origin: self.v()? }),
-            5 | 6 | 9 => {
+            5 | 6 | 9 | 13 => {
                 let (entity, start, end) = (self.entity()?, self.v()?, self.v()?);
                 Ok(Temporary::Line { kind, entity, start, end })
             }
-            _ => Err(RANGE),
+            12 => {
+                let (origin, first_colour, colour_count) = (self.v()?, self.b()?, self.b()?);
+                Ok(Temporary::Explosion { origin, first_colour, colour_count })
+            }
+            14.. => Err(RANGE),
         }
     }
 

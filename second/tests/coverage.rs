@@ -58,7 +58,11 @@ fn note_temporary(facts: &mut Facts, temporary: &Temporary) {
         Temporary::Point { kind, .. } => note(facts, format!("temporary {kind}")),
         Temporary::Line { kind, entity, .. } => {
             note(facts, format!("temporary {kind}"));
-            note(facts, format!("line of entity {entity}"));
+            note(facts, format!("line {kind} of entity {entity}"));
+        }
+        Temporary::Explosion { first_colour, colour_count, .. } => {
+            note(facts, "temporary 12");
+            note(facts, format!("explosion of colours {first_colour} {colour_count}"));
         }
     }
 }
@@ -127,8 +131,13 @@ fn note_refusal(facts: &mut Facts, refusal: Refusal, bytes: &[u8], attempt: &Att
         (9, [what @ (5 | 22), ..]) if word(1) == Some(449) => {
             note(facts, format!("message {what} of entity 449 refused"))
         }
-        (9, [23, 5, ..]) if word(2) == Some(449) => note(facts, "line of entity 449 refused"),
-        (9, [23, 12, ..]) => note(facts, "temporary 12 refused"),
+        (9, [23, kind @ ..=13, ..]) if word(2) == Some(449) => {
+            note(facts, format!("line {kind} of entity 449 refused"))
+        }
+        // A boundary case ends where its message is cut.
+        (5 | 9, [23, kind, ..]) => {
+            note(facts, format!("temporary {kind} of {} bytes refused {number}", at.len()))
+        }
         (9, [0x81, 0x40, 0xC1, 1, ..]) => note(facts, "update of entity 449 refused"),
         (9, [16, ..]) if word(1).map(|w| w >> 3) == Some(449) => {
             note(facts, "stopsound of entity 449 refused")
@@ -240,13 +249,20 @@ fn required() -> Vec<String> {
         need(format!("{count} sounds"));
     }
     for entity in [0, 255, 256, 448] {
-        for what in ["view", "baseline", "line", "sound", "stopsound"] {
+        for what in ["view", "baseline", "sound", "stopsound"] {
             need(format!("{what} of entity {entity}"));
         }
+        LINES.iter().for_each(|kind| need(format!("line {kind} of entity {entity}")));
         need(format!("update of entity {entity} width 2"));
     }
     (2..8).for_each(|bit| need(format!("message 6 mask {:x}", 1 << bit)));
-    (0..=11).for_each(|kind| need(format!("temporary {kind}")));
+    (0..=13).for_each(|kind| need(format!("temporary {kind}")));
+    LINES.iter().for_each(|kind| need(format!("line {kind} of entity 449 refused")));
+    for (kind, length, number) in [(11, 8, 5), (12, 10, 5), (13, 16, 5), (14, 16, 9), (15, 16, 9)] {
+        for len in 2..length {
+            need(format!("temporary {kind} of {len} bytes refused {number}"));
+        }
+    }
     for (player, limit) in [(0, 1), (1, 2), (15, 16)] {
         need(format!("player {player} of {limit}"));
         need(format!("player {limit} of {limit} refused"));
@@ -257,7 +273,10 @@ fn required() -> Vec<String> {
     all
 }
 
-const REQUIRED: [&str; 41] = [
+/// The types of temporary entities that are lines.
+const LINES: [u8; 4] = [5, 6, 9, 13];
+
+const REQUIRED: [&str; 44] = [
     "empty input",
     "size 8001 refused",
     "block head short",
@@ -268,12 +287,15 @@ const REQUIRED: [&str; 41] = [
     "message 11 string of 2047 refused",
     "message 5 of entity 449 refused",
     "message 22 of entity 449 refused",
-    "line of entity 449 refused",
     "sound of entity 449 refused",
     "stopsound of entity 449 refused",
     "update of entity 449 refused",
     "update bit 15 refused",
-    "temporary 12 refused",
+    "temporary 14 of 16 bytes refused 9",
+    "temporary 255 of 16 bytes refused 9",
+    "explosion of colours 0 0",
+    "explosion of colours 0 255",
+    "explosion of colours 255 0",
     "limit 0 refused",
     "limit 17 refused",
     "limit 1 refused", // 256 names

@@ -103,6 +103,36 @@ fn cases_are_answered_line_by_line() {
     assert_eq!(stdout(&run(&["cases"], script.as_bytes())), expected);
 }
 
+/// The temporary entities of version 1.08: an explosion that is read, and made ones of
+/// each case; a line's entity; room that is short.
+#[test]
+fn temporary_entities_are_read_and_made() {
+    let explosion = "explosion type=12 x=513 y=1027 z=-251 first_colour=7 colour_count=255";
+    let read = format!("  found next 10\n  sent {explosion}\n  filled plain {explosion}\n");
+    let zeros = "00".repeat(12);
+    let refused = |number_and_place: &str, room: usize| {
+        format!("  refused {number_and_place}: {}\n", "ee".repeat(room))
+    };
+    let cases = [
+        ("m 00 0a 170c0102030405ff07ff", read + "  written 10: 170c0102030405ff07ff\n"),
+        ("p 17 09 0b", format!("  written 8: 170b{}ee\n", &zeros[..12])),
+        ("p 17 08 0c 00", refused("13 at 0", 8)),
+        ("p 17 08 0d 00", refused("13 at 0", 8)),
+        ("p 17 10 0c 01", refused("13 at 0", 16)),
+        ("p 17 11 0d 01 c001", format!("  written 16: 170dc001{zeros}ee\n")),
+        ("p 17 11 0d 01 c101", refused("13 at 0", 17)),
+        ("p 17 10 0e 01", refused("13 at 0", 16)),
+        ("p 17 09 0e 02", refused("12 at 10", 9)),
+        ("p 17 0a 0e 02", format!("  written 10: 170c{}\n", &zeros[..16])),
+        ("p 17 0b 00 ff", format!("  written 10: 170c{}ee\n", &zeros[..16])),
+    ];
+    let scene = "  scene ended=0 time=none limit=0 view=0 pause=0 statics=0\n";
+    let script: String = cases.iter().map(|(line, _)| format!("{line}\n")).collect();
+    let expected: String =
+        cases.iter().map(|(line, answer)| format!("{line}\n{answer}{scene}")).collect();
+    assert_eq!(stdout(&run(&["cases"], script.as_bytes())), expected);
+}
+
 /// Document 01's marked recording, whole and by its parts; packed, 128 statics and one more.
 #[test]
 fn recordings_are_cases_too() {
@@ -181,9 +211,9 @@ fn compare(args: &[&str], keep: &Path) -> Output {
 fn compare_agrees_with_itself() {
     let keep = keep_folder("agrees");
     let modes: [&[&str]; 3] = [
-        &["--count", "60", "--first", "2700", SECOND, "normal"],
-        &["--pipe", "--count", "60", "--first", "2700", SECOND, "normal"],
-        &["--mode", "scene", "--count", "60", "--first", "2700", SECOND, "scene"],
+        &["--count", "60", "--random", SECOND, "normal"],
+        &["--pipe", "--count", "60", "--random", SECOND, "normal"],
+        &["--mode", "scene", "--count", "60", "--random", SECOND, "scene"],
     ];
     for args in modes {
         let output = compare(args, &keep);

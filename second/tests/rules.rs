@@ -169,12 +169,35 @@ fn update_fields_in_wire_order() {
     assert_eq!(last.normal(), hex("FF 3F 05 01 02 03 04 05 06 07 08 09 0A 0B 0C 0D 0E"));
 }
 
+/// The two temporary entities of version 1.08, which document 02's request
+/// 2026-01 adds, each with every value its own.
+#[test]
+fn temporary_entities_of_version_1_08() {
+    let explosion =
+        Temporary::Explosion { origin: [0x0201, 0x0403, -251], first_colour: 7, colour_count: 255 };
+    let (start, end) = ([0x0201, 0x0403, -251], [0x0807, 0x0A09, 0x0C0B]);
+    let line = Temporary::Line { kind: 13, entity: 448, start, end };
+    let scene = scene_after(&hex("82 05 08 02 03 1F FE FF FF FF 07 00 00 80 3F 80 06"));
+    for (bytes, temporary) in [
+        ("17 0C 01 02 03 04 05 FF 07 FF", explosion),
+        ("17 0D C0 01 01 02 03 04 05 FF 07 08 09 0A 0B 0C", line),
+    ] {
+        let bytes = hex(bytes);
+        let last = read_from(&scene, &bytes);
+        assert_eq!(last.step.sent, Message::Temporary(temporary));
+        assert_eq!(last.filled(), &Message::Temporary(temporary));
+        assert_eq!(last.normal(), bytes);
+        assert_eq!(last.after, scene);
+        assert_eq!(write::write_message(&scene, &last.step.sent, b""), Ok(bytes));
+    }
+}
+
 /// A field is whole before its rule, and the rule of an earlier field goes
 /// before a later field's being whole.
 #[test]
 fn order_within_a_message() {
     let scene = Scene::start();
-    let cases: [(&str, u8); 20] = [
+    let cases: [(&str, u8); 28] = [
         ("03", 5),
         ("03 20", 9),
         ("04 0E 00 00", 5),
@@ -192,8 +215,16 @@ fn order_within_a_message() {
         ("0D 00", 9),
         ("0F 00", 5),
         ("0F 00 01", 8),
-        ("17 0C", 9),
+        ("17", 5),
         ("17 05 C1 01", 9),
+        ("17 0C", 5),
+        ("17 0C 00 00 00 00 00 00 00", 5),
+        ("17 0D", 5),
+        ("17 0D C1", 5),
+        ("17 0D C1 01", 9),
+        ("17 0D C0 01", 5),
+        ("17 0E", 9),
+        ("17 FF", 9),
         ("81 80", 8),
     ];
     for (bytes, number) in cases {
@@ -317,6 +348,32 @@ fn records_that_no_bytes_read_to() {
     assert_eq!(refused(&update(0x8001, 5, zero), b""), 13);
     assert_eq!(refused(&update(0, 5, Record { model: 1, ..zero }), b""), 13); // not sent
     assert!(write::write_message(&scene, &update(0x4001, 5, zero), b"").is_ok());
+}
+
+/// Each type has one case, which alone is written; a line's entity is in range.
+#[test]
+fn temporary_entities_that_no_bytes_read_to() {
+    let origin = [0; 3];
+    let written = |temporary| {
+        let sent = Message::Temporary(temporary);
+        write::write_message(&Scene::start(), &sent, b"").map(|bytes| bytes.len())
+    };
+    let line = |kind, entity| Temporary::Line { kind, entity, start: origin, end: origin };
+    let refused = Err(Refusal { number: 13, place: 0 });
+    for kind in 0..=255 {
+        let (point_length, line_length) = match kind {
+            5 | 6 | 9 | 13 => (refused, Ok(16)),
+            12 | 14.. => (refused, refused),
+            _ => (Ok(8), refused),
+        };
+        assert_eq!(written(Temporary::Point { kind, origin }), point_length, "{kind}");
+        assert_eq!(written(line(kind, 448)), line_length, "{kind}");
+        for entity in [449, 0x7FFF, 0x8000, 0xFFFF] {
+            assert_eq!(written(line(kind, entity)), refused, "{kind}");
+        }
+    }
+    let explosion = Temporary::Explosion { origin, first_colour: 0, colour_count: 0 };
+    assert_eq!(written(explosion), Ok(10));
 }
 
 #[test]

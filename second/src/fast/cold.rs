@@ -156,7 +156,8 @@ fn temporary<'a>(bytes: &'a [u8], scene: &FastScene) -> Result<&'a [u8], u8> {
     match bytes.first() {
         None => Err(SHORT),
         Some(0..=4 | 7 | 8 | 10 | 11) => ask(&bytes[1..], &Ask::Bytes(6), scene),
-        Some(5 | 6 | 9) => ask_all(&bytes[1..], &[Ask::Entity, Ask::Bytes(12)], scene),
+        Some(12) => ask(&bytes[1..], &Ask::Bytes(8), scene),
+        Some(5 | 6 | 9 | 13) => ask_all(&bytes[1..], &[Ask::Entity, Ask::Bytes(12)], scene),
         Some(_) => Err(RANGE),
     }
 }

@@ -374,7 +374,8 @@ impl<O: Output> Pass<'_, O> {
     fn temporary(&mut self, at: usize, end: usize) -> Result<usize, Bad> {
         match self.fixed::<2>(at, end)?[1] {
             0..=4 | 7 | 8 | 10 | 11 => self.fixed::<8>(at, end).map(|_| at + 8),
-            5 | 6 | 9 => {
+            12 => self.fixed::<10>(at, end).map(|_| at + 10),
+            5 | 6 | 9 | 13 => {
                 let message = self.fixed::<16>(at, end)?;
                 let entity = u16::from_le_bytes([message[2], message[3]]);
                 good(entity <= MAX_ENTITY, at + 16)

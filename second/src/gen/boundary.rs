@@ -305,12 +305,13 @@ impl Cases {
 
     fn entities(&mut self) {
         // Each message with an entity of two bytes: before and after it.
-        let places: [(&[u8], usize); 6] = [
+        let places: [(&[u8], usize); 7] = [
             (&[5], 0),
             (&[22], 13),
             (&[23, 5], 12),
             (&[23, 6], 12),
             (&[23, 9], 12),
+            (&[23, 13], 12),
             (&[0x81, 0x40], 0),
         ];
         for (head, rest) in places {
@@ -383,21 +384,30 @@ impl Cases {
         self.bad("stat 31, cut", &[1], &[3, 31, 0, 0, 0], 5);
     }
 
+    /// Each type whole, and cut behind it and before the last byte; the types
+    /// around the last good one cut at every byte.
     fn temporaries(&mut self) {
         for kind in (0..=20).chain([127, 128, 255]) {
-            let name = format!("temporary {kind}");
-            let length = match kind {
-                0..=4 | 7 | 8 | 10 | 11 => 8,
-                5 | 6 | 9 => 16,
-                _ => {
-                    self.bad(format!("{name}, cut"), &[1], &[23, kind], 9);
-                    self.bad(name, &[1], &zeros(&[23, kind], 14), 9);
-                    continue;
-                }
+            let (length, cut) = match kind {
+                0..=4 | 7 | 8 | 10 | 11 => (8, 5),
+                12 => (10, 5),
+                5 | 6 | 9 | 13 => (16, 5),
+                _ => (16, 9),
             };
+            let name = format!("temporary {kind}");
             let message = zeros(&[23, kind], length - 2);
-            self.bad(format!("{name}, cut"), &[1], &message[..length - 1], 5);
-            self.good(name, &message);
+            let every = (11..=15).contains(&kind);
+            for len in (2..length).filter(|len| every || [2, length - 1].contains(len)) {
+                self.bad(format!("{name}, cut to {len}"), &[1], &message[..len], cut);
+            }
+            match kind {
+                0..=13 => self.good(name, &message),
+                _ => self.bad(name, &[1], &message, 9),
+            }
+        }
+        for colours in [[0, 255], [255, 0], [255, 255]] {
+            let message = [&zeros(&[23, 12], 6), &colours[..]].concat();
+            self.good(format!("temporary 12, colours {colours:?}"), &message);
         }
     }
 
@@ -592,6 +602,7 @@ pub fn tour() -> Vec<Vec<u8>> {
     messages.extend([vec![14, 3, 1, 0], zeros(&[15, 0xFF, 0x7E], 23), vec![16, 0x29, 0]]);
     messages.extend([vec![17, 3, 0x44], zeros(&[18], 11), zeros(&[19], 8), zeros(&[20], 13)]);
     messages.extend([zeros(&[22, 5, 0, 3], 12), zeros(&[23, 4], 6), zeros(&[23, 5, 5, 0], 12)]);
+    messages.push(zeros(&[23, 12], 8));
     messages.extend([vec![24, 1], vec![25, 3], vec![27], vec![28], zeros(&[29], 9), vec![30]]);
     messages.extend([vec![32, 2, 3], vec![33], zeros(&[0xFF, 0x7F, 0, 1], 14)]);
     messages.extend([vec![0x80, 5], vec![0xC2, 5, 1, 2, 0], vec![2]]);

@@ -295,10 +295,15 @@ fn baseline(rng: &mut Rng) -> Baseline {
 }
 
 fn temporary(rng: &mut Rng) -> Temporary {
-    match rng.below(12) as u8 {
-        kind @ (5 | 6 | 9) => {
+    match rng.below(14) as u8 {
+        kind @ (5 | 6 | 9 | 13) => {
             Temporary::Line { kind, entity: entity(rng), start: shorts(rng), end: shorts(rng) }
         }
+        12 => Temporary::Explosion {
+            origin: shorts(rng),
+            first_colour: rng.byte(),
+            colour_count: rng.byte(),
+        },
         kind => Temporary::Point { kind, origin: shorts(rng) },
     }
 }

@@ -35,8 +35,8 @@ pub const PROTOCOL: i32 = 15;
 
 pub const PROTOCOL_BITS: u32 = PROTOCOL as u32;
 
-// The last type of a temporary entity.
-pub const LAST_TEMPORARY: u8 = 11;
+// Types of temporary entities.
+pub const TEMPORARY_COUNT: u8 = 14;
 
 // What a sound and clientdata mean where they do not send it.
 pub const DEFAULT_VOLUME: u8 = 255;

@@ -20,7 +20,9 @@ use dem::limit::PROTOCOL;
 use dem::limit::STAT_BOUND;
 use dem::limit::STATIC_LIMIT;
 use dem::limit::STYLE_COUNT;
+use dem::limit::TEMPORARY_COUNT;
 use dem::sound;
+use dem::temporary::EXPLOSION;
 use dem::update;
 use dem_parts::Context;
 use dem_types::Arms;
@@ -190,13 +192,15 @@ fn clientdata_fits(c: Clientdata) -> bool
         & arms_fit(mask, arms)
 }
 
-// The types of one place, and those from one place to another.
+// The type is one of its case.
 fn temporary_fits(t: Temporary) -> bool
     ensures { λ r. ⌜ r ≡ temporaryTest t ⌝ }
 {
     match t {
-        Temporary::Point(k, _) => (k <= 4) | (k == 7) | (k == 8) | (k == 10) | (k == 11),
-        Temporary::Line(k, e, _, _) => ((k == 5) | (k == 6) | (k == 9)) & (e.0 < ENTITY_BOUND),
+        Temporary::Point(k, _) => (k < TEMPORARY_COUNT)
+            & !(dem_parts::is_line(k) | (k == EXPLOSION)),
+        Temporary::Line(k, e, _, _) => dem_parts::is_line(k) & (e.0 < ENTITY_BOUND),
+        Temporary::Explosion(_, _, _) => true,
     }
 }
 

@@ -4,8 +4,9 @@ use Prim.Native.Nat.{ℕ}
 use lib.ListN.{drop}
 use Rattle.format.specs.Bytes.{Result, free}
 use Rattle.format.specs.Layout.{Value, number, Layout, done, field, split, put}
+use Rattle.dem.specs.Kind
 use Rattle.dem.specs.Scene.{Context as Numbers}
-use Rattle.dem.specs.Message.{entityRule, kindLayout}
+use Rattle.dem.specs.Message.{entityRule, Shape, shapeFields, row, kindLayout}
 use Rattle.format.specs.Answer.{placeIn}
 use Rattle.wire.specs.Cursors.{gotten, numberAt, parseAt}
 use Rattle.wire.specs.declared.Cursor.{Cursor}
@@ -38,6 +39,10 @@ entityAt s c = numberAt s c 2 entityRule
 -- A message n from behind its number on.
 unfoldable pub kindAt : List ℕ → Cursor → Numbers → ℕ → Result (List Value)
 kindAt s c x n = put (number n) (parseAt s c (kindLayout x n))
+
+-- A temporary entity of a type and its shape, from behind the type on.
+unfoldable pub temporaryAt : List ℕ → Cursor → Numbers → ℕ → Shape → Result (List Value)
+temporaryAt s c x k t = put (number Kind.temporary) (put (number k) (parseAt s c (row x (shapeFields t) done)))
 
 -- The place of the bytes that are left from a cursor on.
 abbrev pub leftAt : List ℕ → Cursor → ℕ

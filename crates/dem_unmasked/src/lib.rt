@@ -7,15 +7,17 @@ ghost use mir.Syntax.{w32};
 ghost use Rattle.dem.specs.Limits.{playerCount, protocol};
 ghost use Rattle.format.specs.Layout.{number};
 ghost use Rattle.format.specs.Floats.{notBefore, isTime};
-ghost use Rattle.dem.specs.Message.{below, between, equals, isPoint};
+ghost use Rattle.dem.specs.Message.{below, between, equals, point, line, explosion, explosionType};
+ghost use Rattle.dem.specs.Scene.{Context as Numbers};
 ghost use Rattle.wire.specs.Cursors.{gotten, numberAt};
 ghost use Rattle.dem_types.specs.Values.{timeOf};
-ghost use Rattle.dem_parts.specs.Kinds.{contextOf, gottenMessage, kindAt};
+ghost use Rattle.dem_parts.specs.Kinds.{contextOf, gottenMessage, kindAt, temporaryAt};
 use dem::limit::HIGHEST_LIMIT;
-use dem::limit::LAST_TEMPORARY;
 use dem::limit::PROTOCOL_BITS;
 use dem::limit::STAT_BOUND;
 use dem::limit::STYLE_COUNT;
+use dem::limit::TEMPORARY_COUNT;
+use dem::temporary::EXPLOSION;
 use dem_parts::Context;
 use dem_parts::MessageAt;
 use dem_types::Entity;
@@ -81,16 +83,6 @@ pub fn is_wrong_time(bits: u32, x: Context) -> bool
 {
     let latest = x.time;
     is_early(bits, latest) | (TIME_BOUND <= bits)
-}
-
-// The temporary entities of one place, of those of a type 0 to 11; the others go from one place to another.
-fn is_point(kind: u8) -> bool
-    ensures { λ r. ⌜ r ≡ isPoint kind ⌝ }
-{
-    match kind {
-        0..=4 | 7 | 8 | 10 | 11 => true,
-        _ => false,
-    }
 }
 
 pub fn read_stat(s: &[u8], c: Cursor, x: Context) -> MessageAt
@@ -353,23 +345,23 @@ pub fn read_baseline(s: &[u8], c: Cursor, x: Context) -> MessageAt
     }
 }
 
-pub fn read_temporary(s: &[u8], c: Cursor, x: Context) -> MessageAt
-    ensures { λ r. ⌜ gottenMessage (now (s .entry)) r ≡ kindAt (now (s .entry)) c (contextOf x) 23 ⌝ }
+fn read_point(s: &[u8], c: Cursor, kind: u8) -> MessageAt
+    ensures { λ r. ⌜ ((x : Numbers) → gottenMessage (now (s .entry)) r ≡ temporaryAt (now (s .entry)) c x kind point) ⌝ }
 {
-    let k = wire::read_byte(s, c);
-    let kind = k.value;
-    let ruled = wire::refuse_if(k.cursor, c.at, LAST_TEMPORARY < kind, WRONG_NUMBER);
-    if is_point(kind) {
-        let o = dem_parts::read_vector(s, ruled);
-        let origin = o.vector;
-        let cursor = o.cursor;
-        let point = Temporary::Point(kind, origin);
-        return MessageAt {
-            message: Message::Temporary(point),
-            cursor,
-        };
+    let o = dem_parts::read_vector(s, c);
+    let origin = o.vector;
+    let cursor = o.cursor;
+    let point = Temporary::Point(kind, origin);
+    MessageAt {
+        message: Message::Temporary(point),
+        cursor,
     }
-    let e = dem_parts::read_entity(s, ruled);
+}
+
+fn read_line(s: &[u8], c: Cursor, kind: u8) -> MessageAt
+    ensures { λ r. ⌜ ((x : Numbers) → gottenMessage (now (s .entry)) r ≡ temporaryAt (now (s .entry)) c x kind line) ⌝ }
+{
+    let e = dem_parts::read_entity(s, c);
     let a = dem_parts::read_vector(s, e.cursor);
     let b = dem_parts::read_vector(s, a.cursor);
     let entity = Entity(e.value);
@@ -381,6 +373,36 @@ pub fn read_temporary(s: &[u8], c: Cursor, x: Context) -> MessageAt
         message: Message::Temporary(line),
         cursor,
     }
+}
+
+fn read_explosion(s: &[u8], c: Cursor) -> MessageAt
+    ensures { λ r. ⌜ ((x : Numbers) → gottenMessage (now (s .entry)) r ≡ temporaryAt (now (s .entry)) c x explosionType explosion) ⌝ }
+{
+    let o = dem_parts::read_vector(s, c);
+    let first = wire::read_byte(s, o.cursor);
+    let count = wire::read_byte(s, first.cursor);
+    let origin = o.vector;
+    let cursor = count.cursor;
+    let explosion = Temporary::Explosion(origin, first.value, count.value);
+    MessageAt {
+        message: Message::Temporary(explosion),
+        cursor,
+    }
+}
+
+pub fn read_temporary(s: &[u8], c: Cursor, x: Context) -> MessageAt
+    ensures { λ r. ⌜ gottenMessage (now (s .entry)) r ≡ kindAt (now (s .entry)) c (contextOf x) 23 ⌝ }
+{
+    let k = wire::read_byte(s, c);
+    let kind = k.value;
+    let ruled = wire::refuse_if(k.cursor, c.at, TEMPORARY_COUNT <= kind, WRONG_NUMBER);
+    if dem_parts::is_line(kind) {
+        return read_line(s, ruled, kind);
+    }
+    if kind == EXPLOSION {
+        return read_explosion(s, ruled);
+    }
+    read_point(s, ruled, kind)
 }
 
 pub fn read_pause(s: &[u8], c: Cursor, x: Context) -> MessageAt

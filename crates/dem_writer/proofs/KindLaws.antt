@@ -3,7 +3,7 @@
 -- Assumes nothing.
 use mathlib.Core.Path.{_≡_, refl, sym, ap, ap₂, _∙_, subst, subst₂}
 use mathlib.Core.List.{List, [], _∷_, _++_, append-nil}
-use mathlib.Core.Bool.{Bool, true, false, cond}
+use mathlib.Core.Bool.{true}
 use Prim.Native.Nat.{ℕ}
 use borrow.Author.Tests.{le-leb}
 use mir.Val.{ofZ}
@@ -13,7 +13,8 @@ use Rattle.dem.specs.Kind
 use Rattle.format.specs.Bytes.{leWrite, writeString}
 use Rattle.format.specs.Layout.{Value, number, text, Layout, done, print, allows, tail}
 use Rattle.dem.specs.Scene.{Context}
-use Rattle.dem.specs.Message.{Field, byte, chars, entity, version, limit, row, vector, names, isPoint, kindLayout, layout, updateLayout}
+use Rattle.dem.specs.Message.{Field, byte, chars, version, limit, row, names, kindLayout, layout, updateLayout}
+use Rattle.dem.specs.Message.{Shape, point, line, explosion, shapeOf, shapeFields, explosionType}
 use Rattle.format.proofs.LayoutLaws.{Allowed, allows→}
 use Rattle.dem.proofs.MessageLaws.{kind-update}
 use Rattle.dem.proofs.ShapeLaws.{update-numbered}
@@ -24,7 +25,7 @@ use Rattle.dem_types.specs.Values.{valuesBy, long as longValue, vectorValues, t
 use Rattle.dem_types.specs.declared.Entity.{Entity}
 use Rattle.dem_types.specs.declared.Vector.{Vector}
 use Rattle.dem_types.specs.declared.Update.{Update}
-use Rattle.dem_types.specs.declared.Temporary.the-variants.{Point, Line}
+use Rattle.dem_types.specs.declared.Temporary.the-variants.{Point, Line, Explosion}
 use Rattle.dem_types.specs.declared.Serverinfo.{Serverinfo}
 use Rattle.dem_types.specs.declared.Message.{Message}
 use Rattle.dem_types.specs.declared.Message.the-variants as M
@@ -46,34 +47,39 @@ update-print x u a =
 
 -- ---- a temporary entity
 
-abbrev shape : Context → Bool → Layout
-shape x b = cond b (row x vector done) (row x (entity ∷ vector ++ vector) done)
-
-shape-print : (x : Context) (t : List ℕ) (k : ℕ) (b : Bool) (vs : List Value) → isPoint k ≡ b
-    → leWrite 1 Kind.temporary ++ (leWrite 1 k ++ print (shape x b) vs) ≡ print (layout x) (number Kind.temporary ∷ number k ∷ vs)
+shape-print : (x : Context) (k : ℕ) (s : Shape) (vs : List Value) → shapeOf k ≡ s
+    → leWrite 1 Kind.temporary ++ (leWrite 1 k ++ print (row x (shapeFields s) done) vs) ≡ print (layout x) (number Kind.temporary ∷ number k ∷ vs)
 unfolding layout kindLayout print
-shape-print x t k b vs e = ap (λ (b : Bool). leWrite 1 Kind.temporary ++ (leWrite 1 k ++ print (shape x b) vs)) (sym e)
+shape-print x k s vs e = ap (λ (s : Shape). leWrite 1 Kind.temporary ++ (leWrite 1 k ++ print (row x (shapeFields s) done) vs)) (sym e)
 
-module _ (x : Context) (t : List ℕ) (k : ℕ) where
-  pub point-print : (v : Vector) → Allowed (layout x) (number Kind.temporary ∷ temporaryValues (Point k v))
+module _ (x : Context) (t : List ℕ) where
+  pub point-print : (k : ℕ) (v : Vector) → Allowed (layout x) (number Kind.temporary ∷ temporaryValues (Point k v))
       → bytesOf t (numberPiece 1 Kind.temporary ∷ numberPiece 1 k ∷ numberPiece 0 0 ∷ vectorPieces v)
       ≡ print (layout x) (number Kind.temporary ∷ temporaryValues (Point k v))
   unfolding layout kindLayout print bytesOf
-  point-print v a = shape-print x t k true (vectorValues v) (go (isPoint k) (a .2 .2))
+  point-print k v a = shape-print x k point (vectorValues v) (go (shapeOf k) (a .2 .2))
     where
-      go : (b : Bool) → Allowed (shape x b) (vectorValues v) → b ≡ true
-      go true a = refl
-      go false a = absurd (a .2 .2 .2)
+      go : (s : Shape) → Allowed (row x (shapeFields s) done) (vectorValues v) → s ≡ point
+      go point a = refl
+      go line a = absurd (a .2 .2 .2)
+      go explosion a = absurd (a .2 .2 .2)
 
-  pub line-print : (e : Entity) (v w : Vector) → Allowed (layout x) (number Kind.temporary ∷ temporaryValues (Line k e v w))
+  pub line-print : (k : ℕ) (e : Entity) (v w : Vector) → Allowed (layout x) (number Kind.temporary ∷ temporaryValues (Line k e v w))
       → bytesOf t (numberPiece 1 Kind.temporary ∷ numberPiece 1 k ∷ numberPiece 2 (e .0) ∷ (vectorPieces v ++ vectorPieces w))
       ≡ print (layout x) (number Kind.temporary ∷ temporaryValues (Line k e v w))
   unfolding layout kindLayout print bytesOf
-  line-print e v w a = shape-print x t k false (tail (temporaryValues (Line k e v w))) (go (isPoint k) (a .2 .2))
+  line-print k e v w a = shape-print x k line (tail (temporaryValues (Line k e v w))) (go (shapeOf k) (a .2 .2))
     where
-      go : (b : Bool) → Allowed (shape x b) (tail (temporaryValues (Line k e v w))) → b ≡ false
-      go true a = absurd (a .2 .2 .2)
-      go false a = refl
+      go : (s : Shape) → Allowed (row x (shapeFields s) done) (tail (temporaryValues (Line k e v w))) → s ≡ line
+      go point a = absurd (a .2 .2 .2)
+      go line a = refl
+      go explosion a = absurd (a .2 .2 .2 .2 .2)
+
+  pub explosion-print : (v : Vector) (colour count : ℕ)
+      → bytesOf t (numberPiece 1 Kind.temporary ∷ numberPiece 1 explosionType ∷ (vectorPieces v ++ numberPiece 1 colour ∷ numberPiece 1 count ∷ []))
+      ≡ print (layout x) (number Kind.temporary ∷ temporaryValues (Explosion v colour count))
+  unfolding layout kindLayout print bytesOf
+  explosion-print v colour count = refl
 
 -- ---- any message
 

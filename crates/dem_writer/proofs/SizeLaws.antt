@@ -17,7 +17,7 @@ use Rattle.format.specs.Layout.{Value, number, text, Layout, done, field, split
 use Rattle.format.specs.Masked.{Slot, Mask, isSent, slotLayout}
 use Rattle.dem.specs.Scene.{Context, zeroBaseline}
 use Rattle.dem.specs.Message.{Field, byte, short, long, chars, entity, player, statIndex, style, version, limit, channelEntity, timeBits, fieldLayout}
-use Rattle.dem.specs.Message.{row, rows, vector, isEmpty, names, isPoint, isUpdate, soundSlots, soundTail, clientSlots, clientTail, updateSlots}
+use Rattle.dem.specs.Message.{row, rows, isEmpty, names, Shape, point, line, explosion, shapeOf, shapeFields, isUpdate, soundSlots, soundTail, clientSlots, clientTail, updateSlots}
 use Rattle.dem.specs.Message.{updateMask, highBit, wideBit, updateLayout, kindLayout, layout}
 use Rattle.format.proofs.ByteLaws.{StringBytes, le-length, bit-lt}
 use Rattle.format.proofs.EachLaws.{in-run}
@@ -106,6 +106,11 @@ row-short n = go (leb 35 n) refl
         leb-true (length (getD rows n [])) 12
         (in-run (λ n. leb (length (getD rows n [])) 12) 0 35 n refl zero-le (leb-false 35 n e))
 
+shape-short : (s : Shape) → length (shapeFields s) ≤ 12
+shape-short point = lit≤ tt
+shape-short line = lit≤ tt
+shape-short explosion = lit≤ tt
+
 -- ---- names and masked fields
 
 names-within : (m : ℕ) {k : Layout} {n : ℕ} → Within k n → Within (names m k) (stringLimit * suc m + n)
@@ -146,8 +151,8 @@ kind-within x n =
     either (isUpdate n) (update-within n)
     (either (eqb n Kind.sound) (more (omega arith) (within-field (λ m. slots-within soundSlots (bit m) (row-within x soundTail within-done))))
     (either (eqb n Kind.clientdata) (more (omega arith) (within-field (λ m. slots-within clientSlots (bit m) (row-within x clientTail within-done))))
-    (either (eqb n Kind.temporary) (more (omega arith) (within-field (λ k. either {n = stringLimit * 7} (isPoint k)
-    (more (omega arith) (row-within x vector within-done)) (more (omega arith) (row-within x (entity ∷ vector ++ vector) within-done)))))
+    (either (eqb n Kind.temporary) (more (omega arith) (within-field {n = stringLimit * 12} (λ k. more (omega (arith, shape-short (shapeOf k)))
+    (row-within x (shapeFields (shapeOf k)) within-done))))
     (more (omega (arith, row-short n)) (row-within x (getD rows n [])
     (either (eqb n Kind.serverinfo) (names-within nameLimit (names-within nameLimit within-done)) (more (omega arith) within-done)))))))
 

@@ -3,7 +3,10 @@ use dem_messages::MessageAnswer;
 use dem_messages::NormalAnswer;
 use dem_messages::WriteAnswer;
 use dem_scene::Scene;
+use dem_types::Entity;
 use dem_types::Message;
+use dem_types::Temporary;
+use dem_types::Vector;
 use wire::Text;
 
 fn all(block: &[u8], scene: Scene) -> Scene {
@@ -64,6 +67,26 @@ fn byte_at(bytes: &[u8], i: usize) -> u8 {
     0
 }
 
+fn word(low: u8, high: u8) -> u16 {
+    low as u16 + 256 * (high as u16)
+}
+
+// A type, a case, and a line's entity in two bytes.
+fn made_temporary(bytes: &[u8]) -> Temporary {
+    let kind = byte_at(bytes, 0);
+    let zero = Vector { x: 0, y: 0, z: 0 };
+    match byte_at(bytes, 1) {
+        0 => Temporary::Point(kind, zero),
+        1 => Temporary::Line(
+            kind,
+            Entity(word(byte_at(bytes, 2), byte_at(bytes, 3))),
+            zero,
+            zero,
+        ),
+        _ => Temporary::Explosion(zero, 0, 0),
+    }
+}
+
 fn made(bytes: &[u8], kind: usize) -> Message {
     let first = byte_at(bytes, 0);
     let second = byte_at(bytes, 1);
@@ -73,6 +96,7 @@ fn made(bytes: &[u8], kind: usize) -> Message {
             start: first as usize,
             len: second as usize,
         }),
+        23 => Message::Temporary(made_temporary(bytes)),
         _ => Message::Nop,
     }
 }
@@ -116,9 +140,7 @@ fn walk(scene: Scene, block: &[u8]) -> Scene {
 }
 
 fn entity(scene: Scene, bytes: &[u8]) -> Scene {
-    let low = byte_at(bytes, 0) as usize;
-    let high = byte_at(bytes, 1) as usize;
-    run_show::scenes::entity(scene, low + 256 * high);
+    run_show::scenes::entity(scene, word(byte_at(bytes, 0), byte_at(bytes, 1)) as usize);
     scene
 }
 

@@ -12,6 +12,7 @@ use crate::refused;
 use crate::say;
 use crate::short;
 use crate::vector;
+use dem::temporary::EXPLOSION;
 use dem_messages::MessageAnswer;
 use dem_scene::Client;
 use dem_scene::Filled;
@@ -184,10 +185,19 @@ fn point(kind: u8, origin: Vector) {
     vector(origin);
 }
 
+fn explosion(origin: Vector, first: u8, count: u8) {
+    point(EXPLOSION, origin);
+    numbers(
+        b" first_colour= colour_count=",
+        &[first as u64, count as u64],
+    );
+}
+
 fn temporary(t: Temporary) {
     match t {
         Temporary::Point(kind, origin) => point(kind, origin),
         Temporary::Line(kind, e, start, end) => line(kind, e, start, end),
+        Temporary::Explosion(origin, first, count) => explosion(origin, first, count),
     }
 }
 
@@ -345,6 +355,7 @@ fn temporary_name(t: Temporary) -> usize {
     match t {
         Temporary::Point(_, _) => 21,
         Temporary::Line(_, _, _, _) => 22,
+        Temporary::Explosion(_, _, _) => 35,
     }
 }
 
@@ -404,7 +415,7 @@ fn word_at(words: &[u8], index: usize) {
 
 fn kind(i: usize) {
     word_at(
-        b"nop disconnect stat version view sound time print stufftext angles serverinfo style name frags clientdata stopsound colours particle damage static baseline point line pause signon centerprint killed secret static_sound intermission finale track sellscreen cutscene update ",
+        b"nop disconnect stat version view sound time print stufftext angles serverinfo style name frags clientdata stopsound colours particle damage static baseline point line pause signon centerprint killed secret static_sound intermission finale track sellscreen cutscene update explosion ",
         i,
     );
 }

@@ -1,11 +1,10 @@
 -- `dem_unmasked::read_temporary` meets its contract: a type with its rule, then the layout that the type picks.
 -- Assumes nothing.
-use mathlib.Core.Path.{sym, _∙_}
+use mathlib.Core.Path.{refl, sym, ap, _∙_}
 use mathlib.Core.Bool.{true, false}
-use Rattle.format.specs.Layout.{done}
-use Rattle.wire.proofs.Sticky.{reads-field, reads-then}
-use Rattle.dem_types.specs.Values.{vectorValues}
-use Rattle.dem_parts.specs.Kinds.{contextOf, entityAt, vectorLayout}
+use borrow.Author.Tests.{eq-eqb, ne-eqb}
+use Rattle.dem.specs.Message.{explosion, explosionType}
+use Rattle.dem_parts.specs.Kinds.{contextOf, temporaryAt}
 use Rattle.dem_unmasked.proofs.Types.{type-reads}
 use borrow.Author.Needs.{needs}
 use Rattle.dem_unmasked.proofs.read_temporary.Statement.{statement}
@@ -17,41 +16,44 @@ read-byte-requires c κs = search needs
 refuse-if-requires : tie.Need-refuse-if-requires
 refuse-if-requires c κs = search needs
 
-is-point-requires : tie.Need-is-point-requires
-is-point-requires c κs = search needs
+is-line-requires : tie.Need-is-line-requires
+is-line-requires c κs = search needs
 
-read-vector-requires : tie.Need-read-vector-requires
-read-vector-requires c κs = search needs
+read-line-requires : tie.Need-read-line-requires
+read-line-requires c κs = search needs
 
 returns : tie.Need-returns
 returns c =
-    let p = c .before .before .before .before in
+    let p = c .before .before in
     let k = p .before .before in
-    type-reads _ (contextOf (k .before .before .args .x)) _ true _ _ _ _ _ (k .read-byte .ensures) (p .before .refuse-if .ensures)
-    (sym (c .before .before .before .if1 .taken) ∙ p .is-point .ensures) (c .before .before .read-vector .ensures)
+    c .read-line .ensures _
+    ∙ type-reads _ (contextOf (k .before .before .args .x)) _ true _ _ _ _ (k .read-byte .ensures) (p .before .refuse-if .ensures)
+    (sym (c .before .if1 .taken) ∙ p .is-line .ensures) refl
 
-read-entity-requires : tie.Need-read-entity-requires
-read-entity-requires c κs = search needs
-
-read-vector-requires-2 : tie.Need-read-vector-requires-2
-read-vector-requires-2 c κs = search needs
-
-read-vector-requires-3 : tie.Need-read-vector-requires-3
-read-vector-requires-3 c κs = search needs
+read-explosion-requires : tie.Need-read-explosion-requires
+read-explosion-requires c κs = search needs
 
 returns-2 : tie.Need-returns-2
-unfolding entityAt
 returns-2 c =
-    let b = c .before .before .before .read-vector3 in
-    let a = c .before .before .before .before .read-vector2 in
-    let e = c .before .before .before .before .before in
-    let p = e .before .before in
+    let p = c .before .before .before in
     let k = p .before .before in
-    type-reads _ (contextOf (k .before .before .args .x)) _ false _ _ _ _ _ (k .read-byte .ensures) (p .before .refuse-if .ensures)
-    (sym (e .before .if1 .left) ∙ p .is-point .ensures)
-    (reads-field _ _ _ _ _ _ _ _ _ (e .read-entity .ensures)
-    (reads-then _ (vectorLayout done) (vectorLayout done) (vectorValues (a .result .vector)) (vectorValues (b .result .vector)) _ _ _
-    (a .ensures) (b .ensures)))
+    let a = k .before .before .args in
+    let h = c .before .if2 .taken in
+    c .read-explosion .ensures _
+    ∙ ap (λ k. temporaryAt (a .s .now) (p .before .refuse-if .result) (contextOf (a .x)) k explosion) (sym h)
+    ∙ type-reads _ (contextOf (a .x)) _ false true _ _ _ (k .read-byte .ensures) (p .before .refuse-if .ensures)
+    (sym (c .before .before .if1 .left) ∙ p .is-line .ensures) (sym (eq-eqb _ explosionType h))
+
+read-point-requires : tie.Need-read-point-requires
+read-point-requires c κs = search needs
+
+returns-3 : tie.Need-returns-3
+returns-3 c =
+    let p = c .before .before .before in
+    let k = p .before .before in
+    c .read-point .ensures _
+    ∙ type-reads _ (contextOf (k .before .before .args .x)) _ false false _ _ _ (k .read-byte .ensures) (p .before .refuse-if .ensures)
+    (sym (c .before .before .if1 .left) ∙ p .is-line .ensures) (sym (ne-eqb _ explosionType (c .before .if2 .left)))
 
 pub read-temporary-spec : {M : Type 1} → statement M
 read-temporary-spec =
@@ -59,10 +61,10 @@ read-temporary-spec =
     (tie.spec
     read-byte-requires
     refuse-if-requires
-    is-point-requires
-    read-vector-requires
+    is-line-requires
+    read-line-requires
     returns
-    read-entity-requires
-    read-vector-requires-2
-    read-vector-requires-3
-    returns-2)
+    read-explosion-requires
+    returns-2
+    read-point-requires
+    returns-3)

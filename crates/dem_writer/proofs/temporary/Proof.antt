@@ -1,4 +1,4 @@
--- `dem_writer::temporary` meets its contract: what the layout allows of a point is a point's type, and so for a line.
+-- `dem_writer::temporary` meets its contract: what the layout allows of a point is a point's type, and so for a line; an explosion's is its own.
 -- Assumes nothing.
 use mathlib.Core.Path.{_≡_, sym, ap, _∙_, subst}
 use mathlib.Core.List.{_∷_}
@@ -11,7 +11,7 @@ use Rattle.format.proofs.LayoutLaws.{allows→}
 use Rattle.dem_types.specs.Values.{temporaryValues}
 use Rattle.dem_types.specs.declared.Temporary.{Temporary}
 use Rattle.dem_writer.specs.Bytes.{bytesOf, listOf}
-use Rattle.dem_writer.proofs.KindLaws.{point-print, line-print}
+use Rattle.dem_writer.proofs.KindLaws.{point-print, line-print, explosion-print}
 use Rattle.dem_writer.proofs.temporary.Statement.{statement}
 use Rattle.dem_writer.proofs.temporary.Tie as tie
 
@@ -31,6 +31,25 @@ returns-2 c x t =
     → bytesOf t (listOf (c .line .result)) ≡ print (layout x) (number Kind.temporary ∷ temporaryValues m)) (sym (k .1))
     (λ a. ap (bytesOf t) (c .line .ensures) ∙ line-print x t (f .0) (f .1 .0) (f .1 .1 .0) (f .1 .1 .1 .0) (allows→ (layout x) _ a))
 
+returns-3 : tie.Need-returns-3
+returns-3 c x t =
+    let k = c .before .before .k3 .given in
+    let f = k .0 in
+    subst (λ (m : Temporary). allows (layout x) (number Kind.temporary ∷ temporaryValues m) ≡ true
+    → bytesOf t (listOf (c .explosion .result)) ≡ print (layout x) (number Kind.temporary ∷ temporaryValues m)) (sym (k .1))
+    (λ a. ap (bytesOf t) (c .explosion .ensures) ∙ explosion-print x t (f .0) (f .1 .0) (f .1 .1 .0))
+
 pub temporary-spec : {M : Type 1} → statement M
 temporary-spec =
-    tie.close (tie.spec (λ c. search needs) (λ c. search needs) (λ c κs. search needs) (λ c. search needs) (λ c κs. search needs) returns returns-2)
+    tie.close
+    (tie.spec
+    (λ c. search needs)
+    (λ c. search needs)
+    (λ c κs. search needs)
+    (λ c. search needs)
+    (λ c κs. search needs)
+    (λ c. search needs)
+    (λ c κs. search needs)
+    returns
+    returns-2
+    returns-3)

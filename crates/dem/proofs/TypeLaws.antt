@@ -1,0 +1,36 @@
+-- The types of temporary entities, each by the bytes that it has behind the message's number: an origin, an entity and two places, or an
+-- origin and colours. Every other type is refused, and so is the first number past the entities where the type has one.
+-- Assumes nothing.
+use mathlib.Core.Path.{_≡_, refl}
+use mathlib.Core.List.{List, [], _∷_, _++_}
+use mathlib.Core.Bool.{true}
+use Prim.Native.Nat.{ℕ, _-_}
+use lib.Dec.{eqb}
+use lib.ListN.{length, getD, replicate}
+use Rattle.format.specs.Bytes.{Result, found, refused, readNumber, leWrite}
+use Rattle.format.specs.Layout.{Value, parse}
+use Rattle.dem.specs.Limits.{entityCount}
+use Rattle.dem.specs.Scene.{Context}
+use Rattle.dem.specs.Message.{kindLayout}
+use Rattle.dem.specs.Kind
+use Rattle.format.proofs.EachLaws.{each}
+
+-- The bytes that are read of fifteen; none where something is refused.
+abbrev taken : Result (List Value) → ℕ
+taken (found vs rest) = 15 - length rest
+taken (refused n left) = 0
+
+-- A type, an entity where it has one, and zeros.
+abbrev size : Context → ℕ → ℕ → ℕ
+size c entity type = taken (parse (kindLayout c Kind.temporary) (type ∷ leWrite 2 entity ++ replicate 12 0))
+
+-- One test computed over every type.
+pub type-sizes : (c : Context)
+    → each (λ k. eqb (size c (entityCount - 1) k) (getD (7 ∷ 7 ∷ 7 ∷ 7 ∷ 7 ∷ 15 ∷ 15 ∷ 7 ∷ 7 ∷ 15 ∷ 7 ∷ 7 ∷ 9 ∷ 15 ∷ []) k 0)) 0 256 ≡ true
+unfolding kindLayout parse readNumber
+type-sizes c = refl
+
+pub entity-bounded : (c : Context)
+    → each (λ k. eqb (size c entityCount k) (getD (7 ∷ 7 ∷ 7 ∷ 7 ∷ 7 ∷ 0 ∷ 0 ∷ 7 ∷ 7 ∷ 0 ∷ 7 ∷ 7 ∷ 9 ∷ []) k 0)) 0 256 ≡ true
+unfolding kindLayout parse readNumber
+entity-bounded c = refl

@@ -396,7 +396,7 @@ fn temporary([kind, case, low, high]: [u8; 4]) -> Temporary {
             let entity = u16::from_le_bytes([low, high]);
             Temporary::Line { kind, entity, start: origin, end: origin }
         }
-        _ => Temporary::Explosion { origin, first_colour: 0, colour_count: 0 },
+        _ => Temporary::Explosion2 { origin, first_colour: 0, colour_count: 0 },
     }
 }
 
@@ -488,7 +488,7 @@ fn named<T: Fields, S: Fields, C: Fields, U: Fields>(message: &Message<T, S, C, 
         Message::Baseline { .. } => "baseline",
         Message::Temporary(Temporary::Point { .. }) => "point",
         Message::Temporary(Temporary::Line { .. }) => "line",
-        Message::Temporary(Temporary::Explosion { .. }) => "explosion",
+        Message::Temporary(Temporary::Explosion2 { .. }) => "explosion2",
         Message::Pause { .. } => "pause",
         Message::Signon { .. } => "signon",
         Message::CenterPrint { .. } => "centerprint",

@@ -87,13 +87,13 @@ pub struct Update {
     pub record: Record,
 }
 
-/// A temporary entity is a kind of its own inside message 23. An explosion is
+/// A temporary entity is a kind of its own inside message 23. `Explosion2` is
 /// always of type 12.
 #[derive(Clone, Copy, Debug, PartialEq, Eq)]
 pub enum Temporary {
     Point { kind: u8, origin: [i16; 3] },
     Line { kind: u8, entity: u16, start: [i16; 3], end: [i16; 3] },
-    Explosion { origin: [i16; 3], first_colour: u8, colour_count: u8 },
+    Explosion2 { origin: [i16; 3], first_colour: u8, colour_count: u8 },
 }
 
 #[derive(Clone, Copy, Debug, PartialEq, Eq)]

@@ -441,7 +441,7 @@ impl Cursor<'_> {
             }
             12 => {
                 let (origin, first_colour, colour_count) = (self.v()?, self.b()?, self.b()?);
-                Ok(Temporary::Explosion { origin, first_colour, colour_count })
+                Ok(Temporary::Explosion2 { origin, first_colour, colour_count })
             }
             14.. => Err(RANGE),
         }

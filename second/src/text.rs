@@ -177,7 +177,7 @@ impl Fields for Temporary {
                 let (start, end) = (vector("start_", start), vector("end_", end));
                 format!("type={kind} entity={entity} {start} {end}")
             }
-            Temporary::Explosion { origin, first_colour, colour_count } => {
+            Temporary::Explosion2 { origin, first_colour, colour_count } => {
                 let origin = vector("", origin);
                 format!("type=12 {origin} first_colour={first_colour} colour_count={colour_count}")
             }

@@ -276,7 +276,7 @@ impl Out {
             Temporary::Line { kind, entity, start, end } => {
                 self.b(*kind).s(*entity as i16).v(start).v(end)
             }
-            Temporary::Explosion { origin, first_colour, colour_count } => {
+            Temporary::Explosion2 { origin, first_colour, colour_count } => {
                 self.b(12).v(origin).b(*first_colour).b(*colour_count)
             }
         }

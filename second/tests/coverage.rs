@@ -60,9 +60,9 @@ fn note_temporary(facts: &mut Facts, temporary: &Temporary) {
             note(facts, format!("temporary {kind}"));
             note(facts, format!("line {kind} of entity {entity}"));
         }
-        Temporary::Explosion { first_colour, colour_count, .. } => {
+        Temporary::Explosion2 { first_colour, colour_count, .. } => {
             note(facts, "temporary 12");
-            note(facts, format!("explosion of colours {first_colour} {colour_count}"));
+            note(facts, format!("explosion2 of colours {first_colour} {colour_count}"));
         }
     }
 }
@@ -293,9 +293,9 @@ const REQUIRED: [&str; 44] = [
     "update bit 15 refused",
     "temporary 14 of 16 bytes refused 9",
     "temporary 255 of 16 bytes refused 9",
-    "explosion of colours 0 0",
-    "explosion of colours 0 255",
-    "explosion of colours 255 0",
+    "explosion2 of colours 0 0",
+    "explosion2 of colours 0 255",
+    "explosion2 of colours 255 0",
     "limit 0 refused",
     "limit 17 refused",
     "limit 1 refused", // 256 names

@@ -103,12 +103,12 @@ fn cases_are_answered_line_by_line() {
     assert_eq!(stdout(&run(&["cases"], script.as_bytes())), expected);
 }
 
-/// The temporary entities of version 1.08: an explosion that is read, and made ones of
+/// The temporary entities of version 1.08: type 12 that is read, and made ones of
 /// each case; a line's entity; room that is short.
 #[test]
 fn temporary_entities_are_read_and_made() {
-    let explosion = "explosion type=12 x=513 y=1027 z=-251 first_colour=7 colour_count=255";
-    let read = format!("  found next 10\n  sent {explosion}\n  filled plain {explosion}\n");
+    let explosion2 = "explosion2 type=12 x=513 y=1027 z=-251 first_colour=7 colour_count=255";
+    let read = format!("  found next 10\n  sent {explosion2}\n  filled plain {explosion2}\n");
     let zeros = "00".repeat(12);
     let refused = |number_and_place: &str, room: usize| {
         format!("  refused {number_and_place}: {}\n", "ee".repeat(room))

@@ -173,13 +173,16 @@ fn update_fields_in_wire_order() {
 /// 2026-01 adds, each with every value its own.
 #[test]
 fn temporary_entities_of_version_1_08() {
-    let explosion =
-        Temporary::Explosion { origin: [0x0201, 0x0403, -251], first_colour: 7, colour_count: 255 };
+    let explosion2 = Temporary::Explosion2 {
+        origin: [0x0201, 0x0403, -251],
+        first_colour: 7,
+        colour_count: 255,
+    };
     let (start, end) = ([0x0201, 0x0403, -251], [0x0807, 0x0A09, 0x0C0B]);
     let line = Temporary::Line { kind: 13, entity: 448, start, end };
     let scene = scene_after(&hex("82 05 08 02 03 1F FE FF FF FF 07 00 00 80 3F 80 06"));
     for (bytes, temporary) in [
-        ("17 0C 01 02 03 04 05 FF 07 FF", explosion),
+        ("17 0C 01 02 03 04 05 FF 07 FF", explosion2),
         ("17 0D C0 01 01 02 03 04 05 FF 07 08 09 0A 0B 0C", line),
     ] {
         let bytes = hex(bytes);
@@ -372,8 +375,8 @@ fn temporary_entities_that_no_bytes_read_to() {
             assert_eq!(written(line(kind, entity)), refused, "{kind}");
         }
     }
-    let explosion = Temporary::Explosion { origin, first_colour: 0, colour_count: 0 };
-    assert_eq!(written(explosion), Ok(10));
+    let explosion2 = Temporary::Explosion2 { origin, first_colour: 0, colour_count: 0 };
+    assert_eq!(written(explosion2), Ok(10));
 }
 
 #[test]

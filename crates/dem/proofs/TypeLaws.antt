@@ -3,7 +3,7 @@
 -- Assumes nothing.
 use mathlib.Core.Path.{_≡_, refl}
 use mathlib.Core.List.{List, [], _∷_, _++_}
-use mathlib.Core.Bool.{true}
+use mathlib.Core.Bool.{true, cond}
 use Prim.Native.Nat.{ℕ, _-_}
 use lib.Dec.{eqb}
 use lib.ListN.{length, getD, replicate}
@@ -20,17 +20,23 @@ abbrev taken : Result (List Value) → ℕ
 taken (found vs rest) = 15 - length rest
 taken (refused n left) = 0
 
--- A type, an entity where it has one, and zeros.
+-- Of a type, an entity where it has one, and zeros.
 abbrev size : Context → ℕ → ℕ → ℕ
 size c entity type = taken (parse (kindLayout c Kind.temporary) (type ∷ leWrite 2 entity ++ replicate 12 0))
 
+abbrev lineSize : ℕ
+lineSize = 15
+
+-- Of the types in turn.
+abbrev sizes : List ℕ
+sizes = 7 ∷ 7 ∷ 7 ∷ 7 ∷ 7 ∷ lineSize ∷ lineSize ∷ 7 ∷ 7 ∷ lineSize ∷ 7 ∷ 7 ∷ 9 ∷ lineSize ∷ []
+
 -- One test computed over every type.
-pub type-sizes : (c : Context)
-    → each (λ k. eqb (size c (entityCount - 1) k) (getD (7 ∷ 7 ∷ 7 ∷ 7 ∷ 7 ∷ 15 ∷ 15 ∷ 7 ∷ 7 ∷ 15 ∷ 7 ∷ 7 ∷ 9 ∷ 15 ∷ []) k 0)) 0 256 ≡ true
+pub type-sizes : (c : Context) → each (λ k. eqb (size c (entityCount - 1) k) (getD sizes k 0)) 0 256 ≡ true
 unfolding kindLayout parse readNumber
 type-sizes c = refl
 
 pub entity-bounded : (c : Context)
-    → each (λ k. eqb (size c entityCount k) (getD (7 ∷ 7 ∷ 7 ∷ 7 ∷ 7 ∷ 0 ∷ 0 ∷ 7 ∷ 7 ∷ 0 ∷ 7 ∷ 7 ∷ 9 ∷ []) k 0)) 0 256 ≡ true
+    → each (λ k. let s = getD sizes k 0 in eqb (size c entityCount k) (cond (eqb s lineSize) 0 s)) 0 256 ≡ true
 unfolding kindLayout parse readNumber
 entity-bounded c = refl

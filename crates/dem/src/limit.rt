@@ -22,6 +22,9 @@ pub const STATIC_LIMIT: u8 = 128;
 // Names in each list of serverinfo, without the empty one that closes it.
 pub const NAME_LIMIT: usize = 255;
 
+// Types of temporary entities.
+pub const TEMPORARY_TYPE_COUNT: u8 = 14;
+
 // Message bytes of a block.
 pub const BLOCK_LIMIT: u32 = 8000;
 
@@ -34,9 +37,6 @@ pub const LONGEST_TRACK_LINE: usize = 5;
 pub const PROTOCOL: i32 = 15;
 
 pub const PROTOCOL_BITS: u32 = PROTOCOL as u32;
-
-// Types of temporary entities.
-pub const TEMPORARY_COUNT: u8 = 14;
 
 // What a sound and clientdata mean where they do not send it.
 pub const DEFAULT_VOLUME: u8 = 255;

@@ -1,2 +1,2 @@
-// The type of the temporary entity that has colours.
-pub const EXPLOSION: u8 = 12;
+// The type of a temporary entity that has colours.
+pub const EXPLOSION2: u8 = 12;

@@ -3,9 +3,9 @@
 use mathlib.Core.Path.{_≡_, refl, sym, ap, ap₂, _∙_}
 use mathlib.Core.List.{List, [], _∷_, _++_, append-nil}
 use mathlib.Core.Bool.{Bool, true, false, cond, not, _&&_, _||_, and-true, and-false, or-false}
-use Prim.Native.Nat.{ℕ, _+_, _*_, _<_, _≤_, _^_}
+use Prim.Native.Nat.{ℕ, _+_, _*_, _<_, _^_, zero-le}
 use native.Mathlib.Omega.{arith}
-use borrow.Author.Tests.{leb-true, leb-false, ltb-false, ne-eqb, not-true}
+use borrow.Author.Tests.{leb-false}
 use lib.Dec.{leb, ltb, eqb, lit<}
 use lib.ListN.{take, drop}
 use mir.Val.{Val, ofZ}
@@ -16,7 +16,7 @@ use denote.Enum.Declared.{row as enumOf}
 use denote.Enum.Laws.{owed}
 use Rattle.dem.specs.Kind
 use Rattle.format.specs.Limits.{stringLimit}
-use Rattle.dem.specs.Limits.{entityCount, playerCount, statCount, styleCount, staticLimit, nameLimit, temporaryCount, protocol}
+use Rattle.dem.specs.Limits.{entityCount, playerCount, statCount, styleCount, staticLimit, nameLimit, temporaryTypeCount, protocol}
 use Rattle.format.specs.Refusal.{reservedBit, wrongNumber, wrongTime}
 use Rattle.format.specs.Bytes.{unless, free, bit}
 use Rattle.format.specs.Layout.{Value, number, text, Layout, done, field, split, string, tail, allows, stringBytes}
@@ -25,8 +25,7 @@ use Rattle.format.specs.Floats.{isTime, notBefore}
 use Rattle.dem.specs.Scene.{Context as Numbers, zeroBaseline}
 use Rattle.dem.specs.Message.{row, soundSlots, soundTail, clientSlots, clientTail, updateSlots, updateMask, updateLayout, numberRule, isUpdate}
 use Rattle.dem.specs.Message.{equals, between, highRule, entityLayout, names, kindLayout, layout, entityRule, entity}
-use Rattle.dem.specs.Message.{Shape, point, line, explosion, shapeFields, isLine, explosionType, shapeOf}
-use Rattle.format.proofs.ResultLaws.{clash}
+use Rattle.dem.specs.Message.{TemporaryKind, point, line, explosion2, temporaryFields, isLine, explosion2Type, temporaryKind}
 use Rattle.dem.proofs.MessageLaws.{number-update, kind-update}
 use Rattle.dem.proofs.ShapeLaws.{update-numbered}
 use Rattle.dem.proofs.SoundLaws.{from-four}
@@ -42,7 +41,7 @@ use Rattle.dem_types.specs.declared.Update.{Update}
 use Rattle.dem_types.specs.declared.Look.{Look}
 use Rattle.dem_types.specs.declared.Pose.{Pose}
 use Rattle.dem_types.specs.declared.Temporary.{Temporary}
-use Rattle.dem_types.specs.declared.Temporary.the-variants.{Point, Line, Explosion}
+use Rattle.dem_types.specs.declared.Temporary.the-variants.{Point, Line, Explosion2}
 use Rattle.dem_types.specs.declared.Message.{Message}
 use Rattle.dem_types.specs.declared.Message.the-variants as M
 use Rattle.dem_types.proofs.Back.{Fit}
@@ -58,6 +57,7 @@ use Rattle.strings.specs.Names.{namesIn}
 use Rattle.dem_parts.specs.Kinds.{contextOf}
 use Rattle.dem_parts.specs.declared.Context.{Context}
 use Rattle.wire.proofs.Rules.{not-from}
+use Rattle.format.proofs.EachLaws.{in-run}
 use Rattle.wire.specs.Cursors.{placed}
 use Rattle.dem_allowed.specs.Tests.{slotTest, motionTest, armsTest, lookTest, poseTest, listsTest, sourceTest, soundTest, timeTest}
 use Rattle.dem_allowed.specs.Tests.{serverinfoTest, clientTest, temporaryTest, sentTest, updateTest, messageTest}
@@ -185,65 +185,57 @@ client-law c d vs p =
 
 -- ---- temporary entities
 
-line-known : (k : ℕ) → isLine k ≡ true → ltb k temporaryCount ≡ true
-line-known k p = go (ltb k temporaryCount) refl
-  where
-    go : (b : Bool) → ltb k temporaryCount ≡ b → b ≡ true
-    go true e = refl
-    go false e =
-        let h : temporaryCount ≤ k = ltb-false k temporaryCount e in
-        let none : isLine k ≡ false =
-        rw (ne-eqb k 5 (λ z. omega arith), ne-eqb k 6 (λ z. omega arith), ne-eqb k 9 (λ z. omega arith), ne-eqb k 13 (λ z. omega arith)) in
-        clash (cc)
+line-known : (k : ℕ) → k < 256 → isLine k ≡ true → ltb k temporaryTypeCount ≡ true
+line-known k h p =
+    sym (ap (λ (b : Bool). not b || ltb k temporaryTypeCount) p)
+    ∙ in-run (λ k. not (isLine k) || ltb k temporaryTypeCount) 0 256 k refl zero-le h
 
 module _ (c : Numbers) (v : Vector) (f : Wide (2 ∷ 2 ∷ 2 ∷ []) (vectorValues v)) where
-  shapeLayout : Shape → Layout
-  shapeLayout t = row c (shapeFields t) done
+  fields : TemporaryKind → Layout
+  fields t = row c (temporaryFields t) done
 
   typed : (k : ℕ) (vs : List Value) → k < 256
-      → allows (kindLayout c Kind.temporary) (number k ∷ vs) ≡ (ltb k temporaryCount && allows (shapeLayout (shapeOf k)) vs)
-  unfolding kindLayout shapeLayout
-  typed k vs h = ruled-step true 1 (λ k. ltb k temporaryCount) wrongNumber (λ k. shapeLayout (shapeOf k)) k vs h (lit< tt)
+      → allows (kindLayout c Kind.temporary) (number k ∷ vs) ≡ (ltb k temporaryTypeCount && allows (fields (temporaryKind k)) vs)
+  unfolding kindLayout fields
+  typed k vs h = ruled-step true 1 (λ k. ltb k temporaryTypeCount) wrongNumber (λ k. fields (temporaryKind k)) k vs h (lit< tt)
 
   point-law : (k : ℕ) → k < 256
-      → allows (kindLayout c Kind.temporary) (number k ∷ vectorValues v) ≡ (ltb k temporaryCount && not (isLine k || eqb k explosionType))
-  unfolding shapeLayout
-  point-law k h = typed k (vectorValues v) h ∙ ap (λ (b : Bool). ltb k temporaryCount && b) (go (isLine k) (eqb k explosionType))
+      → allows (kindLayout c Kind.temporary) (number k ∷ vectorValues v) ≡ (ltb k temporaryTypeCount && not (isLine k || eqb k explosion2Type))
+  unfolding fields
+  point-law k h = typed k (vectorValues v) h ∙ ap (λ (b : Bool). ltb k temporaryTypeCount && b) (go (isLine k) (eqb k explosion2Type))
     where
-      go : (l e : Bool) → allows (shapeLayout (cond l line (cond e explosion point))) (vectorValues v) ≡ not (l || e)
-      go true e = sym (refuted (shapeLayout line) (vectorValues v) (λ a. a .2 .2 .2))
-      go false true = sym (refuted (shapeLayout explosion) (vectorValues v) (λ a. a .2 .2 .2))
+      go : (l e : Bool) → allows (fields (cond l line (cond e explosion2 point))) (vectorValues v) ≡ not (l || e)
+      go true e = sym (refuted (fields line) (vectorValues v) (λ a. a .2 .2 .2))
+      go false true = sym (refuted (fields explosion2) (vectorValues v) (λ a. a .2 .2 .2))
       go false false = free-fields (2 ∷ 2 ∷ 2 ∷ []) (vectorValues v) f
 
   line-law : (k e : ℕ) (w : Vector) → k < 256 → e < 256 ^ 2 → Wide (2 ∷ 2 ∷ 2 ∷ []) (vectorValues w)
       → allows (kindLayout c Kind.temporary) (number k ∷ number e ∷ (vectorValues v ++ vectorValues w)) ≡ (isLine k && ltb e entityCount)
-  unfolding shapeLayout
+  unfolding fields
   line-law k e w h he g = typed k vs h ∙ go (isLine k) refl
     where
       vs : List Value
       vs = number e ∷ (vectorValues v ++ vectorValues w)
 
-      none : (b : Bool) → allows (shapeLayout (cond b explosion point)) (number e ∷ (vectorValues v ++ vectorValues w)) ≡ false
-      none true = sym (refuted (shapeLayout explosion) (number e ∷ (vectorValues v ++ vectorValues w)) (λ a. a .2 .2 .2 .2 .2))
-      none false = sym (refuted (shapeLayout point) (number e ∷ (vectorValues v ++ vectorValues w)) (λ a. a .2 .2 .2))
+      none : (b : Bool) → allows (fields (cond b explosion2 point)) vs ≡ false
+      none true = sym (refuted (fields explosion2) vs (λ a. a .2 .2 .2 .2 .2))
+      none false = sym (refuted (fields point) vs (λ a. a .2 .2 .2))
 
       go : (l : Bool) → isLine k ≡ l
-          → (ltb k temporaryCount && allows (shapeLayout (cond l line (cond (eqb k explosionType) explosion point)))
-          (number e ∷ (vectorValues v ++ vectorValues w)))
-          ≡ (l && ltb e entityCount)
+          → (ltb k temporaryTypeCount && allows (fields (cond l line (cond (eqb k explosion2Type) explosion2 point))) vs) ≡ (l && ltb e entityCount)
       go true p =
-          ap₂ (λ (a b : Bool). a && b) (line-known k p)
+          ap₂ (λ (a b : Bool). a && b) (line-known k h p)
           (ruled-fields 2 (λ v. ltb v entityCount) (2 ∷ 2 ∷ 2 ∷ 2 ∷ 2 ∷ 2 ∷ []) e (vectorValues v ++ vectorValues w) he
           (both-wide (2 ∷ 2 ∷ 2 ∷ []) (2 ∷ 2 ∷ 2 ∷ []) (vectorValues v) (vectorValues w) f g))
-      go false p = ap (λ (b : Bool). ltb k temporaryCount && b) (none (eqb k explosionType)) ∙ and-false (ltb k temporaryCount)
+      go false p = ap (λ (b : Bool). ltb k temporaryTypeCount && b) (none (eqb k explosion2Type)) ∙ and-false (ltb k temporaryTypeCount)
 
-  explosion-law : (colour count : ℕ) → colour < 256 → count < 256
-      → allows (kindLayout c Kind.temporary) (temporaryValues (Explosion v colour count)) ≡ true
-  unfolding shapeLayout
-  explosion-law colour count h g =
-      typed explosionType (vectorValues v ++ number colour ∷ number count ∷ []) (lit< tt)
-      ∙ free-fields (2 ∷ 2 ∷ 2 ∷ 1 ∷ 1 ∷ []) (vectorValues v ++ number colour ∷ number count ∷ [])
-      (both-wide (2 ∷ 2 ∷ 2 ∷ []) (1 ∷ 1 ∷ []) (vectorValues v) (number colour ∷ number count ∷ []) f (h, (g, tt)))
+  explosion2-law : (first count : ℕ) → first < 256 → count < 256
+      → allows (kindLayout c Kind.temporary) (temporaryValues (Explosion2 v first count)) ≡ true
+  unfolding fields
+  explosion2-law first count h g =
+      typed explosion2Type (vectorValues v ++ number first ∷ number count ∷ []) (lit< tt)
+      ∙ free-fields (2 ∷ 2 ∷ 2 ∷ 1 ∷ 1 ∷ []) (vectorValues v ++ number first ∷ number count ∷ [])
+      (both-wide (2 ∷ 2 ∷ 2 ∷ []) (1 ∷ 1 ∷ []) (vectorValues v) (number first ∷ number count ∷ []) f (h, (g, tt)))
 
 temporary-law : (c : Numbers) (k : Temporary) (vs : List Val) → Is (enumOf TemporaryType.the-type) k vs
     → allows (kindLayout c Kind.temporary) (temporaryValues k) ≡ temporaryTest k
@@ -253,9 +245,9 @@ temporary-law c (Point k v) vs p =
 temporary-law c (Line k e v w) vs p =
     let f = owed TemporaryType.the-type TemporaryLaws.the-laws (Line k e v w) vs p in
     line-law c v (vector-wide v _ (f .1 .1 .0)) k (e .0) w (f .0 .1) (f .1 .0 .1 .1 .0 .1) (vector-wide w _ (f .1 .1 .1 .0))
-temporary-law c (Explosion v colour count) vs p =
-    let f = owed TemporaryType.the-type TemporaryLaws.the-laws (Explosion v colour count) vs p in
-    explosion-law c v (vector-wide v _ (f .0)) colour count (f .1 .0 .1) (f .1 .1 .0 .1)
+temporary-law c (Explosion2 v first count) vs p =
+    let f = owed TemporaryType.the-type TemporaryLaws.the-laws (Explosion2 v first count) vs p in
+    explosion2-law c v (vector-wide v _ (f .0)) first count (f .1 .0 .1) (f .1 .1 .0 .1)
 
 -- ---- statics
 

@@ -8,20 +8,20 @@ use mir.Val.{ofZ}
 use mir.Syntax.{w32}
 use Rattle.dem.specs.Kind
 use Rattle.format.specs.Limits.{stringLimit}
-use Rattle.dem.specs.Limits.{entityCount, playerCount, statCount, styleCount, staticLimit, nameLimit, temporaryCount, protocol}
+use Rattle.dem.specs.Limits.{entityCount, playerCount, statCount, styleCount, staticLimit, nameLimit, temporaryTypeCount, protocol}
 use Rattle.format.specs.Bytes.{bit}
 use Rattle.format.specs.Layout.{Value, number, done, stringBytes, allows}
 use Rattle.format.specs.Masked.{Slot, Mask, isSent, isNumber, anySet}
 use Rattle.format.specs.Floats.{isTime, notBefore}
 use Rattle.dem.specs.Scene.{zeroBaseline}
-use Rattle.dem.specs.Message.{soundSlots, clientSlots, updateSlots, highBit, wideBit, names, isLine, explosionType}
+use Rattle.dem.specs.Message.{soundSlots, clientSlots, updateSlots, highBit, wideBit, names, isLine, explosion2Type}
 use Rattle.wire.specs.declared.Text.{Text}
 use Rattle.strings.specs.Names.{namesIn}
 use Rattle.dem_types.specs.Values.{motionValues, armsValues, lookValues, poseValues}
 use Rattle.dem_types.specs.declared.Entity.{Entity}
 use Rattle.dem_types.specs.declared.Sound.{Sound}
 use Rattle.dem_types.specs.declared.Temporary.{Temporary}
-use Rattle.dem_types.specs.declared.Temporary.the-variants.{Point, Line, Explosion}
+use Rattle.dem_types.specs.declared.Temporary.the-variants.{Point, Line, Explosion2}
 use Rattle.dem_types.specs.declared.Serverinfo.{Serverinfo}
 use Rattle.dem_types.specs.declared.Motion.{Motion}
 use Rattle.dem_types.specs.declared.Arms.{Arms}
@@ -87,9 +87,9 @@ unfoldable pub clientTest : Clientdata → Bool
 clientTest c = not (anySet (8 ∷ 15 ∷ []) (bit (c .mask))) && motionTest (bit (c .mask)) (c .motion) && armsTest (bit (c .mask)) (c .arms)
 
 unfoldable pub temporaryTest : Temporary → Bool
-temporaryTest (Point k v) = ltb k temporaryCount && not (isLine k || eqb k explosionType)
+temporaryTest (Point k v) = ltb k temporaryTypeCount && not (isLine k || eqb k explosion2Type)
 temporaryTest (Line k e v w) = isLine k && ltb (e .0) entityCount
-temporaryTest (Explosion v colour count) = true
+temporaryTest (Explosion2 v first count) = true
 
 -- The high mask byte is sent or 0, and bit 15 is clear; an entity of one byte is below 256.
 unfoldable pub sentTest : Mask → Update → Bool

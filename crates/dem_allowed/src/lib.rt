@@ -20,9 +20,9 @@ use dem::limit::PROTOCOL;
 use dem::limit::STAT_BOUND;
 use dem::limit::STATIC_LIMIT;
 use dem::limit::STYLE_COUNT;
-use dem::limit::TEMPORARY_COUNT;
+use dem::limit::TEMPORARY_TYPE_COUNT;
 use dem::sound;
-use dem::temporary::EXPLOSION;
+use dem::temporary::EXPLOSION2;
 use dem::update;
 use dem_parts::Context;
 use dem_types::Arms;
@@ -192,15 +192,15 @@ fn clientdata_fits(c: Clientdata) -> bool
         & arms_fit(mask, arms)
 }
 
-// The type is one of its case.
+// The type belongs to the case, and a line's entity is one.
 fn temporary_fits(t: Temporary) -> bool
     ensures { λ r. ⌜ r ≡ temporaryTest t ⌝ }
 {
     match t {
-        Temporary::Point(k, _) => (k < TEMPORARY_COUNT)
-            & !(dem_parts::is_line(k) | (k == EXPLOSION)),
-        Temporary::Line(k, e, _, _) => dem_parts::is_line(k) & (e.0 < ENTITY_BOUND),
-        Temporary::Explosion(_, _, _) => true,
+        Temporary::Point(k, _) => (k < TEMPORARY_TYPE_COUNT)
+            & !(dem_types::is_line(k) | (k == EXPLOSION2)),
+        Temporary::Line(k, e, _, _) => dem_types::is_line(k) & (e.0 < ENTITY_BOUND),
+        Temporary::Explosion2(_, _, _) => true,
     }
 }
 

@@ -6,7 +6,7 @@ use Rattle.format.specs.Bytes.{Result, free}
 use Rattle.format.specs.Layout.{Value, number, Layout, done, field, split, put}
 use Rattle.dem.specs.Kind
 use Rattle.dem.specs.Scene.{Context as Numbers}
-use Rattle.dem.specs.Message.{entityRule, Shape, shapeFields, row, kindLayout}
+use Rattle.dem.specs.Message.{entityRule, TemporaryKind, temporaryFields, row, kindLayout}
 use Rattle.format.specs.Answer.{placeIn}
 use Rattle.wire.specs.Cursors.{gotten, numberAt, parseAt}
 use Rattle.wire.specs.declared.Cursor.{Cursor}
@@ -41,8 +41,8 @@ unfoldable pub kindAt : List ℕ → Cursor → Numbers → ℕ → Result (List
 kindAt s c x n = put (number n) (parseAt s c (kindLayout x n))
 
 -- A temporary entity of a type and its shape, from behind the type on.
-unfoldable pub temporaryAt : List ℕ → Cursor → Numbers → ℕ → Shape → Result (List Value)
-temporaryAt s c x k t = put (number Kind.temporary) (put (number k) (parseAt s c (row x (shapeFields t) done)))
+unfoldable pub temporaryAt : List ℕ → Cursor → Numbers → ℕ → TemporaryKind → Result (List Value)
+temporaryAt s c x k t = put (number Kind.temporary) (put (number k) (parseAt s c (row x (temporaryFields t) done)))
 
 -- The place of the bytes that are left from a cursor on.
 abbrev pub leftAt : List ℕ → Cursor → ℕ

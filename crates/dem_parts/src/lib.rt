@@ -2,7 +2,6 @@
 ghost use mathlib.Core.Path.{_≡_};
 ghost use mathlib.Core.List.{[], _∷_};
 ghost use Rattle.format.specs.Layout.{number, done};
-ghost use Rattle.dem.specs.Message.{isLine};
 ghost use Rattle.wire.specs.Cursors.{gotten, parseAt};
 ghost use Rattle.dem_types.specs.Values.{vectorValues, lookValues, poseValues};
 ghost use Rattle.dem_parts.specs.Kinds.{vectorLayout, lookLayout, poseLayout, sourceLayout, entityAt};
@@ -102,13 +101,6 @@ pub fn read_pose(s: &[u8], c: Cursor) -> PoseAt
     };
     let cursor = d.cursor;
     PoseAt { pose, cursor }
-}
-
-// Whether a type of temporary entities goes from one place to another.
-pub fn is_line(kind: u8) -> bool
-    ensures { λ r. ⌜ r ≡ isLine kind ⌝ }
-{
-    (kind == 5) | (kind == 6) | (kind == 9) | (kind == 13)
 }
 
 // Document 01's E.

@@ -25,7 +25,7 @@ use Rattle.strings.specs.Names.{namesIn}
 use Rattle.strings.proofs.Places.{placed-inside}
 use Rattle.strings.proofs.NameLaws.{Texts, joined, names-joined, lists-texts}
 use Rattle.dem_types.specs.declared.Temporary.{Temporary}
-use Rattle.dem_types.specs.declared.Temporary.the-variants.{Point, Line, Explosion}
+use Rattle.dem_types.specs.declared.Temporary.the-variants.{Point, Line, Explosion2}
 use Rattle.dem_types.specs.declared.Serverinfo.{Serverinfo}
 use Rattle.dem_types.specs.declared.Update.{Update}
 use Rattle.dem_types.specs.declared.Message.{Message}
@@ -48,11 +48,11 @@ ending end t = record { start = end - (length t + 1); len = length t }
 abbrev namesEnding : ℕ → List Value → Text
 namesEnding end vs = record { start = end - length (joined vs); len = length (joined vs) }
 
--- A temporary entity's shape is told by how many numbers it has.
+-- A temporary entity's case is told by how many numbers it has.
 abbrev temporaryFrom : List ℕ → Temporary
 temporaryFrom ns =
     cond (isEmpty (drop 4 ns)) (Point (from byte ns) (from vector (drop 1 ns)))
-    (cond (isEmpty (drop 6 ns)) (Explosion (from vector (drop 1 ns)) (from byte (drop 4 ns)) (from byte (drop 5 ns)))
+    (cond (isEmpty (drop 6 ns)) (Explosion2 (from vector (drop 1 ns)) (from byte (drop 4 ns)) (from byte (drop 5 ns)))
     (Line (from byte ns) (from entity (drop 1 ns)) (from vector (drop 2 ns)) (from vector (drop 5 ns))))
 
 abbrev Kind : Type 0
@@ -151,7 +151,7 @@ temporary-back : (k : Temporary)
     → temporaryFrom (numbers (temporaryValues k)) ≡ k
 temporary-back (Point k v) h = ap (Point k) (from-front vector v _ (h .1 .0) [])
 temporary-back (Line k e v w) h = ap₂ (Line k e) (from-front vector v _ (h .1 .1 .0) (vector .out w)) (from-front vector w _ (h .1 .1 .1 .0) [])
-temporary-back (Explosion v c n) h = ap (λ u. Explosion u c n) (from-front vector v _ (h .0) (c ∷ n ∷ []))
+temporary-back (Explosion2 v first count) h = ap (λ u. Explosion2 u first count) (from-front vector v _ (h .0) (first ∷ count ∷ []))
 
 module _ (x : Context) (s : List ℕ) (end : ℕ) (within : end ≤ length s) where
   serverinfo-back : (d : Serverinfo) → Fit (M.Serverinfo d) → inPlace end (M.Serverinfo d) ≡ true → Allowed (layout x) (valuesOf s (M.Serverinfo d))

@@ -7,7 +7,7 @@ use mir.Val.{ofZ}
 use mir.Syntax.{w8, w16, w32}
 use Rattle.dem.specs.Kind
 use Rattle.format.specs.Layout.{Value, number, text}
-use Rattle.dem.specs.Message.{explosionType}
+use Rattle.dem.specs.Message.{explosion2Type}
 use Rattle.wire.specs.Cursors.{placed}
 use Rattle.wire.specs.declared.Text.{Text}
 use Rattle.strings.specs.Names.{namesIn}
@@ -27,7 +27,7 @@ use Rattle.dem_types.specs.declared.Clientdata.{Clientdata}
 use Rattle.dem_types.specs.declared.Particle.{Particle}
 use Rattle.dem_types.specs.declared.Update.{Update}
 use Rattle.dem_types.specs.declared.Temporary.{Temporary}
-use Rattle.dem_types.specs.declared.Temporary.the-variants.{Point, Line, Explosion}
+use Rattle.dem_types.specs.declared.Temporary.the-variants.{Point, Line, Explosion2}
 use Rattle.dem_types.specs.declared.Message.{Message}
 use Rattle.dem_types.specs.declared.Message.the-variants as M
 
@@ -59,7 +59,7 @@ soundValues s =
 abbrev pub temporaryValues : Temporary → List Value
 temporaryValues (Point k v) = number k ∷ vectorValues v
 temporaryValues (Line k e v w) = number k ∷ number (e .0) ∷ (vectorValues v ++ vectorValues w)
-temporaryValues (Explosion v colour count) = number explosionType ∷ (vectorValues v ++ number colour ∷ number count ∷ [])
+temporaryValues (Explosion2 v first count) = number explosion2Type ∷ (vectorValues v ++ number first ∷ number count ∷ [])
 
 abbrev pub serverinfoValues : (Text → List ℕ) → Serverinfo → List Value
 serverinfoValues t s =

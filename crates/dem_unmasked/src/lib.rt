@@ -7,7 +7,7 @@ ghost use mir.Syntax.{w32};
 ghost use Rattle.dem.specs.Limits.{playerCount, protocol};
 ghost use Rattle.format.specs.Layout.{number};
 ghost use Rattle.format.specs.Floats.{notBefore, isTime};
-ghost use Rattle.dem.specs.Message.{below, between, equals, point, line, explosion, explosionType};
+ghost use Rattle.dem.specs.Message.{below, between, equals, point, line, explosion2, explosion2Type};
 ghost use Rattle.dem.specs.Scene.{Context as Numbers};
 ghost use Rattle.wire.specs.Cursors.{gotten, numberAt};
 ghost use Rattle.dem_types.specs.Values.{timeOf};
@@ -16,8 +16,8 @@ use dem::limit::HIGHEST_LIMIT;
 use dem::limit::PROTOCOL_BITS;
 use dem::limit::STAT_BOUND;
 use dem::limit::STYLE_COUNT;
-use dem::limit::TEMPORARY_COUNT;
-use dem::temporary::EXPLOSION;
+use dem::limit::TEMPORARY_TYPE_COUNT;
+use dem::temporary::EXPLOSION2;
 use dem_parts::Context;
 use dem_parts::MessageAt;
 use dem_types::Entity;
@@ -375,17 +375,17 @@ fn read_line(s: &[u8], c: Cursor, kind: u8) -> MessageAt
     }
 }
 
-fn read_explosion(s: &[u8], c: Cursor) -> MessageAt
-    ensures { λ r. ⌜ ((x : Numbers) → gottenMessage (now (s .entry)) r ≡ temporaryAt (now (s .entry)) c x explosionType explosion) ⌝ }
+fn read_explosion2(s: &[u8], c: Cursor) -> MessageAt
+    ensures { λ r. ⌜ ((x : Numbers) → gottenMessage (now (s .entry)) r ≡ temporaryAt (now (s .entry)) c x explosion2Type explosion2) ⌝ }
 {
     let o = dem_parts::read_vector(s, c);
     let first = wire::read_byte(s, o.cursor);
     let count = wire::read_byte(s, first.cursor);
     let origin = o.vector;
     let cursor = count.cursor;
-    let explosion = Temporary::Explosion(origin, first.value, count.value);
+    let explosion2 = Temporary::Explosion2(origin, first.value, count.value);
     MessageAt {
-        message: Message::Temporary(explosion),
+        message: Message::Temporary(explosion2),
         cursor,
     }
 }
@@ -395,12 +395,12 @@ pub fn read_temporary(s: &[u8], c: Cursor, x: Context) -> MessageAt
 {
     let k = wire::read_byte(s, c);
     let kind = k.value;
-    let ruled = wire::refuse_if(k.cursor, c.at, TEMPORARY_COUNT <= kind, WRONG_NUMBER);
-    if dem_parts::is_line(kind) {
+    let ruled = wire::refuse_if(k.cursor, c.at, TEMPORARY_TYPE_COUNT <= kind, WRONG_NUMBER);
+    if dem_types::is_line(kind) {
         return read_line(s, ruled, kind);
     }
-    if kind == EXPLOSION {
-        return read_explosion(s, ruled);
+    if kind == EXPLOSION2 {
+        return read_explosion2(s, ruled);
     }
     read_point(s, ruled, kind)
 }

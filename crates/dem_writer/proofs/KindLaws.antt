@@ -1,5 +1,5 @@
 -- What a layout allows of a message says its kind: an update's number is one of an update's, a temporary entity's type is that of its
--- shape.
+-- kind.
 -- Assumes nothing.
 use mathlib.Core.Path.{_≡_, refl, sym, ap, ap₂, _∙_, subst, subst₂}
 use mathlib.Core.List.{List, [], _∷_, _++_, append-nil}
@@ -14,7 +14,7 @@ use Rattle.format.specs.Bytes.{leWrite, writeString}
 use Rattle.format.specs.Layout.{Value, number, text, Layout, done, print, allows, tail}
 use Rattle.dem.specs.Scene.{Context}
 use Rattle.dem.specs.Message.{Field, byte, chars, version, limit, row, names, kindLayout, layout, updateLayout}
-use Rattle.dem.specs.Message.{Shape, point, line, explosion, shapeOf, shapeFields, explosionType}
+use Rattle.dem.specs.Message.{TemporaryKind, point, line, explosion2, temporaryKind, temporaryFields, explosion2Type}
 use Rattle.format.proofs.LayoutLaws.{Allowed, allows→}
 use Rattle.dem.proofs.MessageLaws.{kind-update}
 use Rattle.dem.proofs.ShapeLaws.{update-numbered}
@@ -25,7 +25,7 @@ use Rattle.dem_types.specs.Values.{valuesBy, long as longValue, vectorValues, t
 use Rattle.dem_types.specs.declared.Entity.{Entity}
 use Rattle.dem_types.specs.declared.Vector.{Vector}
 use Rattle.dem_types.specs.declared.Update.{Update}
-use Rattle.dem_types.specs.declared.Temporary.the-variants.{Point, Line, Explosion}
+use Rattle.dem_types.specs.declared.Temporary.the-variants.{Point, Line, Explosion2}
 use Rattle.dem_types.specs.declared.Serverinfo.{Serverinfo}
 use Rattle.dem_types.specs.declared.Message.{Message}
 use Rattle.dem_types.specs.declared.Message.the-variants as M
@@ -47,39 +47,39 @@ update-print x u a =
 
 -- ---- a temporary entity
 
-shape-print : (x : Context) (k : ℕ) (s : Shape) (vs : List Value) → shapeOf k ≡ s
-    → leWrite 1 Kind.temporary ++ (leWrite 1 k ++ print (row x (shapeFields s) done) vs) ≡ print (layout x) (number Kind.temporary ∷ number k ∷ vs)
+temporary-print : (x : Context) (k : ℕ) (t : TemporaryKind) (vs : List Value) → temporaryKind k ≡ t
+    → leWrite 1 Kind.temporary ++ (leWrite 1 k ++ print (row x (temporaryFields t) done) vs) ≡ print (layout x) (number Kind.temporary ∷ number k ∷ vs)
 unfolding layout kindLayout print
-shape-print x k s vs e = ap (λ (s : Shape). leWrite 1 Kind.temporary ++ (leWrite 1 k ++ print (row x (shapeFields s) done) vs)) (sym e)
+temporary-print x k t vs e = ap (λ (t : TemporaryKind). leWrite 1 Kind.temporary ++ (leWrite 1 k ++ print (row x (temporaryFields t) done) vs)) (sym e)
 
 module _ (x : Context) (t : List ℕ) where
   pub point-print : (k : ℕ) (v : Vector) → Allowed (layout x) (number Kind.temporary ∷ temporaryValues (Point k v))
       → bytesOf t (numberPiece 1 Kind.temporary ∷ numberPiece 1 k ∷ numberPiece 0 0 ∷ vectorPieces v)
       ≡ print (layout x) (number Kind.temporary ∷ temporaryValues (Point k v))
   unfolding layout kindLayout print bytesOf
-  point-print k v a = shape-print x k point (vectorValues v) (go (shapeOf k) (a .2 .2))
+  point-print k v a = temporary-print x k point (vectorValues v) (go (temporaryKind k) (a .2 .2))
     where
-      go : (s : Shape) → Allowed (row x (shapeFields s) done) (vectorValues v) → s ≡ point
+      go : (t : TemporaryKind) → Allowed (row x (temporaryFields t) done) (vectorValues v) → t ≡ point
       go point a = refl
       go line a = absurd (a .2 .2 .2)
-      go explosion a = absurd (a .2 .2 .2)
+      go explosion2 a = absurd (a .2 .2 .2)
 
   pub line-print : (k : ℕ) (e : Entity) (v w : Vector) → Allowed (layout x) (number Kind.temporary ∷ temporaryValues (Line k e v w))
       → bytesOf t (numberPiece 1 Kind.temporary ∷ numberPiece 1 k ∷ numberPiece 2 (e .0) ∷ (vectorPieces v ++ vectorPieces w))
       ≡ print (layout x) (number Kind.temporary ∷ temporaryValues (Line k e v w))
   unfolding layout kindLayout print bytesOf
-  line-print k e v w a = shape-print x k line (tail (temporaryValues (Line k e v w))) (go (shapeOf k) (a .2 .2))
+  line-print k e v w a = temporary-print x k line (tail (temporaryValues (Line k e v w))) (go (temporaryKind k) (a .2 .2))
     where
-      go : (s : Shape) → Allowed (row x (shapeFields s) done) (tail (temporaryValues (Line k e v w))) → s ≡ line
+      go : (t : TemporaryKind) → Allowed (row x (temporaryFields t) done) (tail (temporaryValues (Line k e v w))) → t ≡ line
       go point a = absurd (a .2 .2 .2)
       go line a = refl
-      go explosion a = absurd (a .2 .2 .2 .2 .2)
+      go explosion2 a = absurd (a .2 .2 .2 .2 .2)
 
-  pub explosion-print : (v : Vector) (colour count : ℕ)
-      → bytesOf t (numberPiece 1 Kind.temporary ∷ numberPiece 1 explosionType ∷ (vectorPieces v ++ numberPiece 1 colour ∷ numberPiece 1 count ∷ []))
-      ≡ print (layout x) (number Kind.temporary ∷ temporaryValues (Explosion v colour count))
+  pub explosion2-print : (v : Vector) (first count : ℕ)
+      → bytesOf t (numberPiece 1 Kind.temporary ∷ numberPiece 1 explosion2Type ∷ (vectorPieces v ++ numberPiece 1 first ∷ numberPiece 1 count ∷ []))
+      ≡ print (layout x) (number Kind.temporary ∷ temporaryValues (Explosion2 v first count))
   unfolding layout kindLayout print bytesOf
-  explosion-print v colour count = refl
+  explosion2-print v first count = refl
 
 -- ---- any message
 

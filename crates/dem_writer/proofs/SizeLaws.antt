@@ -1,7 +1,7 @@
 -- A message that its layout allows has at most 2 ^ 21 bytes: a string has at most 2,047 of them, and most strings are serverinfo's 512.
 -- Assumes nothing.
 use mathlib.Core.Path.{_≡_, refl}
-use mathlib.Core.List.{List, [], _∷_, _++_}
+use mathlib.Core.List.{List, [], _∷_}
 use mathlib.Core.Bool.{Bool, true, false, cond}
 use Prim.Native.Nat.{ℕ, zero, suc, _+_, _*_, _^_, _≤_, zero-le}
 use native.Mathlib.Nat.{le-trans}
@@ -17,7 +17,7 @@ use Rattle.format.specs.Layout.{Value, number, text, Layout, done, field, split
 use Rattle.format.specs.Masked.{Slot, Mask, isSent, slotLayout}
 use Rattle.dem.specs.Scene.{Context, zeroBaseline}
 use Rattle.dem.specs.Message.{Field, byte, short, long, chars, entity, player, statIndex, style, version, limit, channelEntity, timeBits, fieldLayout}
-use Rattle.dem.specs.Message.{row, rows, isEmpty, names, Shape, point, line, explosion, shapeOf, shapeFields, isUpdate, soundSlots, soundTail, clientSlots, clientTail, updateSlots}
+use Rattle.dem.specs.Message.{row, rows, isEmpty, names, TemporaryKind, point, line, explosion2, temporaryKind, temporaryFields, isUpdate, soundSlots, soundTail, clientSlots, clientTail, updateSlots}
 use Rattle.dem.specs.Message.{updateMask, highBit, wideBit, updateLayout, kindLayout, layout}
 use Rattle.format.proofs.ByteLaws.{StringBytes, le-length, bit-lt}
 use Rattle.format.proofs.EachLaws.{in-run}
@@ -106,10 +106,10 @@ row-short n = go (leb 35 n) refl
         leb-true (length (getD rows n [])) 12
         (in-run (λ n. leb (length (getD rows n [])) 12) 0 35 n refl zero-le (leb-false 35 n e))
 
-shape-short : (s : Shape) → length (shapeFields s) ≤ 12
-shape-short point = lit≤ tt
-shape-short line = lit≤ tt
-shape-short explosion = lit≤ tt
+temporary-short : (t : TemporaryKind) → length (temporaryFields t) ≤ 7
+temporary-short point = lit≤ tt
+temporary-short line = lit≤ tt
+temporary-short explosion2 = lit≤ tt
 
 -- ---- names and masked fields
 
@@ -151,8 +151,8 @@ kind-within x n =
     either (isUpdate n) (update-within n)
     (either (eqb n Kind.sound) (more (omega arith) (within-field (λ m. slots-within soundSlots (bit m) (row-within x soundTail within-done))))
     (either (eqb n Kind.clientdata) (more (omega arith) (within-field (λ m. slots-within clientSlots (bit m) (row-within x clientTail within-done))))
-    (either (eqb n Kind.temporary) (more (omega arith) (within-field {n = stringLimit * 12} (λ k. more (omega (arith, shape-short (shapeOf k)))
-    (row-within x (shapeFields (shapeOf k)) within-done))))
+    (either (eqb n Kind.temporary) (more (omega arith) (within-field {n = stringLimit * 7} (λ k. more (omega (arith, temporary-short (temporaryKind k)))
+    (row-within x (temporaryFields (temporaryKind k)) within-done))))
     (more (omega (arith, row-short n)) (row-within x (getD rows n [])
     (either (eqb n Kind.serverinfo) (names-within nameLimit (names-within nameLimit within-done)) (more (omega arith) within-done)))))))
 

@@ -12,13 +12,13 @@ ghost use Rattle.format.specs.Bytes.{leWrite, bit, bitOf};
 ghost use Rattle.format.specs.Layout.{number, print, allows, tail};
 ghost use Rattle.dem.specs.Scene.{Context};
 ghost use Rattle.dem.specs.Kind;
-ghost use Rattle.dem.specs.Message.{layout, updateLayout, explosionType, wideBit};
+ghost use Rattle.dem.specs.Message.{layout, updateLayout, explosion2Type, wideBit};
 ghost use Rattle.wire.specs.declared.Text.{Text};
 ghost use Rattle.dem_types.specs.Values.{valuesBy, temporaryValues, soundValues, clientValues, updateValues};
 ghost use Rattle.dem_writer.specs.Bytes.{numberPiece, textPiece, vectorPieces, lookPieces, posePieces, listOf, piecesBytes};
 ghost use Rattle.dem_writer.specs.Texts.{TextsOf};
 use dem::kind;
-use dem::temporary::EXPLOSION;
+use dem::temporary::EXPLOSION2;
 use dem_types::Clientdata;
 use dem_types::Entity;
 use dem_types::Look;
@@ -268,13 +268,13 @@ fn line(k: u8, e: Entity, v: Vector, w: Vector) -> Pieces
 }
 
 // A temporary entity of a vector and colours.
-fn explosion(v: Vector, first: u8, count: u8) -> Pieces
-    ensures { λ r. ⌜ listOf r ≡ (numberPiece 1 Kind.temporary ∷ numberPiece 1 explosionType ∷ (vectorPieces v ++ (numberPiece 1 first ∷ numberPiece 1 count ∷ []))) ⌝ }
+fn explosion2(v: Vector, first: u8, count: u8) -> Pieces
+    ensures { λ r. ⌜ listOf r ≡ (numberPiece 1 Kind.temporary ∷ numberPiece 1 explosion2Type ∷ (vectorPieces v ++ (numberPiece 1 first ∷ numberPiece 1 count ∷ []))) ⌝ }
 {
     let zero = number(0, 0);
     let mut items = [zero; MOST];
     items[0] = from_u8(kind::TEMPORARY);
-    items[1] = from_u8(EXPLOSION);
+    items[1] = from_u8(EXPLOSION2);
     items[2] = from_i16(v.x);
     items[3] = from_i16(v.y);
     items[4] = from_i16(v.z);
@@ -289,7 +289,7 @@ fn temporary(k: Temporary) -> Pieces
     match k {
         Temporary::Point(n, v) => before_vector(kind::TEMPORARY, 1, n as u32, 0, 0, v),
         Temporary::Line(n, e, v, w) => line(n, e, v, w),
-        Temporary::Explosion(v, first, count) => explosion(v, first, count),
+        Temporary::Explosion2(v, first, count) => explosion2(v, first, count),
     }
 }
 

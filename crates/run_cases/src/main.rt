@@ -8,7 +8,7 @@
 //   m  the message at the place, written back into room of the length
 //   n  the normal form of the message at the place, into room of the length; k of the block there; b of all blocks from there on
 //   p  a message that was made, into such room: the place is 3 for a stat and 8 for a print, of the first two bytes, 23 for a temporary
-//      entity (its type, 0 for a point, 1 for a line or else an explosion, a line's entity in two bytes), else a nop
+//      entity of four (its type; 0 for a point, 1 for a line, else an explosion2, which holds no type; a line's entity), else a nop
 //   w  a block's messages by a walker, in three steps, and then all at once
 //   a  a recording; h its track line; d the block at the place; g all blocks from there on
 //   r  the normal form of a recording, into room of the length; t of its track line

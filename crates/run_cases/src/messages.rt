@@ -83,7 +83,7 @@ fn made_temporary(bytes: &[u8]) -> Temporary {
             zero,
             zero,
         ),
-        _ => Temporary::Explosion(zero, 0, 0),
+        _ => Temporary::Explosion2(zero, 0, 0),
     }
 }
 

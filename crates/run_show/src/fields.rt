@@ -12,7 +12,7 @@ use crate::refused;
 use crate::say;
 use crate::short;
 use crate::vector;
-use dem::temporary::EXPLOSION;
+use dem::temporary::EXPLOSION2;
 use dem_messages::MessageAnswer;
 use dem_scene::Client;
 use dem_scene::Filled;
@@ -185,8 +185,8 @@ fn point(kind: u8, origin: Vector) {
     vector(origin);
 }
 
-fn explosion(origin: Vector, first: u8, count: u8) {
-    point(EXPLOSION, origin);
+fn explosion2(origin: Vector, first: u8, count: u8) {
+    point(EXPLOSION2, origin);
     numbers(
         b" first_colour= colour_count=",
         &[first as u64, count as u64],
@@ -197,7 +197,7 @@ fn temporary(t: Temporary) {
     match t {
         Temporary::Point(kind, origin) => point(kind, origin),
         Temporary::Line(kind, e, start, end) => line(kind, e, start, end),
-        Temporary::Explosion(origin, first, count) => explosion(origin, first, count),
+        Temporary::Explosion2(origin, first, count) => explosion2(origin, first, count),
     }
 }
 
@@ -355,7 +355,7 @@ fn temporary_name(t: Temporary) -> usize {
     match t {
         Temporary::Point(_, _) => 21,
         Temporary::Line(_, _, _, _) => 22,
-        Temporary::Explosion(_, _, _) => 35,
+        Temporary::Explosion2(_, _, _) => 35,
     }
 }
 
@@ -415,7 +415,7 @@ fn word_at(words: &[u8], index: usize) {
 
 fn kind(i: usize) {
     word_at(
-        b"nop disconnect stat version view sound time print stufftext angles serverinfo style name frags clientdata stopsound colours particle damage static baseline point line pause signon centerprint killed secret static_sound intermission finale track sellscreen cutscene update explosion ",
+        b"nop disconnect stat version view sound time print stufftext angles serverinfo style name frags clientdata stopsound colours particle damage static baseline point line pause signon centerprint killed secret static_sound intermission finale track sellscreen cutscene update explosion2 ",
         i,
     );
 }

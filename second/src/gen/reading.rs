@@ -299,7 +299,7 @@ fn temporary(rng: &mut Rng) -> Temporary {
         kind @ (5 | 6 | 9 | 13) => {
             Temporary::Line { kind, entity: entity(rng), start: shorts(rng), end: shorts(rng) }
         }
-        12 => Temporary::Explosion {
+        12 => Temporary::Explosion2 {
             origin: shorts(rng),
             first_colour: rng.byte(),
             colour_count: rng.byte(),

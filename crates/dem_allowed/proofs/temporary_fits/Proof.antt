@@ -3,8 +3,8 @@
 use mathlib.Core.Path.{sym, ap, _∙_}
 use mathlib.Core.Bool.{Bool, not, _&&_, _||_}
 use lib.Dec.{ltb, eqb}
-use Rattle.dem.specs.Limits.{entityCount, temporaryCount}
-use Rattle.dem.specs.Message.{explosionType}
+use Rattle.dem.specs.Limits.{entityCount, temporaryTypeCount}
+use Rattle.dem.specs.Message.{explosion2Type}
 use Rattle.dem_allowed.specs.Tests.{temporaryTest}
 use borrow.Author.Needs.{needs}
 use Rattle.dem_allowed.proofs.temporary_fits.Statement.{statement}
@@ -15,7 +15,7 @@ unfolding temporaryTest
 returns c =
     let t = c .before .before .t .given in
     let k = t .0 .0 in
-    ap (λ (b : Bool). ltb k temporaryCount && not (b || eqb k explosionType)) (c .is-line .ensures) ∙ sym (ap temporaryTest (t .1))
+    ap (λ (b : Bool). ltb k temporaryTypeCount && not (b || eqb k explosion2Type)) (c .is-line .ensures) ∙ sym (ap temporaryTest (t .1))
 
 returns-2 : tie.Need-returns-2
 unfolding temporaryTest

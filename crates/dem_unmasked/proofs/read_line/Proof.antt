@@ -5,7 +5,7 @@ use Rattle.wire.proofs.Sticky.{reads-field, reads-then}
 use Rattle.dem_types.specs.Values.{vectorValues}
 use Rattle.dem_parts.specs.Kinds.{entityAt, vectorLayout}
 use Rattle.dem.specs.Message.{line}
-use Rattle.dem_unmasked.proofs.Types.{shape-reads}
+use Rattle.dem_unmasked.proofs.Types.{temporary-reads}
 use borrow.Author.Needs.{needs}
 use Rattle.dem_unmasked.proofs.read_line.Statement.{statement}
 use Rattle.dem_unmasked.proofs.read_line.Tie as tie
@@ -25,7 +25,7 @@ returns c x =
     let b = c .before .before .before .read-vector2 in
     let a = c .before .before .before .before .read-vector in
     let e = c .before .before .before .before .before in
-    shape-reads _ _ _ x _ line _
+    temporary-reads _ _ _ x _ line _
     (reads-field _ _ _ _ _ _ _ _ _ (e .read-entity .ensures)
     (reads-then _ (vectorLayout done) (vectorLayout done) (vectorValues (a .result .vector)) (vectorValues (b .result .vector)) _ _ _
     (a .ensures) (b .ensures)))

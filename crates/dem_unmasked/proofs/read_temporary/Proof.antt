@@ -3,7 +3,7 @@
 use mathlib.Core.Path.{refl, sym, ap, _∙_}
 use mathlib.Core.Bool.{true, false}
 use borrow.Author.Tests.{eq-eqb, ne-eqb}
-use Rattle.dem.specs.Message.{explosion, explosionType}
+use Rattle.dem.specs.Message.{explosion2, explosion2Type}
 use Rattle.dem_parts.specs.Kinds.{contextOf, temporaryAt}
 use Rattle.dem_unmasked.proofs.Types.{type-reads}
 use borrow.Author.Needs.{needs}
@@ -30,8 +30,8 @@ returns c =
     ∙ type-reads _ (contextOf (k .before .before .args .x)) _ true _ _ _ _ (k .read-byte .ensures) (p .before .refuse-if .ensures)
     (sym (c .before .if1 .taken) ∙ p .is-line .ensures) refl
 
-read-explosion-requires : tie.Need-read-explosion-requires
-read-explosion-requires c κs = search needs
+read-explosion2-requires : tie.Need-read-explosion2-requires
+read-explosion2-requires c κs = search needs
 
 returns-2 : tie.Need-returns-2
 returns-2 c =
@@ -39,10 +39,10 @@ returns-2 c =
     let k = p .before .before in
     let a = k .before .before .args in
     let h = c .before .if2 .taken in
-    c .read-explosion .ensures _
-    ∙ ap (λ k. temporaryAt (a .s .now) (p .before .refuse-if .result) (contextOf (a .x)) k explosion) (sym h)
+    c .read-explosion2 .ensures _
+    ∙ ap (λ k. temporaryAt (a .s .now) (p .before .refuse-if .result) (contextOf (a .x)) k explosion2) (sym h)
     ∙ type-reads _ (contextOf (a .x)) _ false true _ _ _ (k .read-byte .ensures) (p .before .refuse-if .ensures)
-    (sym (c .before .before .if1 .left) ∙ p .is-line .ensures) (sym (eq-eqb _ explosionType h))
+    (sym (c .before .before .if1 .left) ∙ p .is-line .ensures) (sym (eq-eqb _ explosion2Type h))
 
 read-point-requires : tie.Need-read-point-requires
 read-point-requires c κs = search needs
@@ -53,7 +53,7 @@ returns-3 c =
     let k = p .before .before in
     c .read-point .ensures _
     ∙ type-reads _ (contextOf (k .before .before .args .x)) _ false false _ _ _ (k .read-byte .ensures) (p .before .refuse-if .ensures)
-    (sym (c .before .before .if1 .left) ∙ p .is-line .ensures) (sym (ne-eqb _ explosionType (c .before .if2 .left)))
+    (sym (c .before .before .if1 .left) ∙ p .is-line .ensures) (sym (ne-eqb _ explosion2Type (c .before .if2 .left)))
 
 pub read-temporary-spec : {M : Type 1} → statement M
 read-temporary-spec =
@@ -64,7 +64,7 @@ read-temporary-spec =
     is-line-requires
     read-line-requires
     returns
-    read-explosion-requires
+    read-explosion2-requires
     returns-2
     read-point-requires
     returns-3)

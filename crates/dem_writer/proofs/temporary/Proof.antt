@@ -11,7 +11,7 @@ use Rattle.format.proofs.LayoutLaws.{allows→}
 use Rattle.dem_types.specs.Values.{temporaryValues}
 use Rattle.dem_types.specs.declared.Temporary.{Temporary}
 use Rattle.dem_writer.specs.Bytes.{bytesOf, listOf}
-use Rattle.dem_writer.proofs.KindLaws.{point-print, line-print, explosion-print}
+use Rattle.dem_writer.proofs.KindLaws.{point-print, line-print, explosion2-print}
 use Rattle.dem_writer.proofs.temporary.Statement.{statement}
 use Rattle.dem_writer.proofs.temporary.Tie as tie
 
@@ -36,8 +36,8 @@ returns-3 c x t =
     let k = c .before .before .k3 .given in
     let f = k .0 in
     subst (λ (m : Temporary). allows (layout x) (number Kind.temporary ∷ temporaryValues m) ≡ true
-    → bytesOf t (listOf (c .explosion .result)) ≡ print (layout x) (number Kind.temporary ∷ temporaryValues m)) (sym (k .1))
-    (λ a. ap (bytesOf t) (c .explosion .ensures) ∙ explosion-print x t (f .0) (f .1 .0) (f .1 .1 .0))
+    → bytesOf t (listOf (c .explosion2 .result)) ≡ print (layout x) (number Kind.temporary ∷ temporaryValues m)) (sym (k .1))
+    (λ a. ap (bytesOf t) (c .explosion2 .ensures) ∙ explosion2-print x t (f .0) (f .1 .0) (f .1 .1 .0))
 
 pub temporary-spec : {M : Type 1} → statement M
 temporary-spec =

@@ -1,11 +1,11 @@
--- `dem_writer::explosion` meets its contract: each piece stands where it was stored.
+-- `dem_writer::explosion2` meets its contract: each piece stands where it was stored.
 -- Assumes nothing.
 use mathlib.Core.Path.{refl}
 use mir.Syntax.{w16}
 use Rattle.dem_writer.proofs.PrintLaws.{bits-of, both}
 use borrow.Author.Needs.{needs}
-use Rattle.dem_writer.proofs.explosion.Statement.{statement}
-use Rattle.dem_writer.proofs.explosion.Tie as tie
+use Rattle.dem_writer.proofs.explosion2.Statement.{statement}
+use Rattle.dem_writer.proofs.explosion2.Tie as tie
 
 returns : tie.Need-returns
 returns c =
@@ -26,8 +26,8 @@ returns c =
     (both (c .from-u84 .ensures)
     refl))))))
 
-pub explosion-spec : {M : Type 1} → statement M
-explosion-spec =
+pub explosion2-spec : {M : Type 1} → statement M
+explosion2-spec =
     tie.close
     (tie.spec
     (λ c κs. search needs)

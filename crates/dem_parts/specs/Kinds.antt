@@ -40,7 +40,7 @@ entityAt s c = numberAt s c 2 entityRule
 unfoldable pub kindAt : List ℕ → Cursor → Numbers → ℕ → Result (List Value)
 kindAt s c x n = put (number n) (parseAt s c (kindLayout x n))
 
--- A temporary entity of a type and its shape, from behind the type on.
+-- A temporary entity of a type and a kind, from behind the type on.
 unfoldable pub temporaryAt : List ℕ → Cursor → Numbers → ℕ → TemporaryKind → Result (List Value)
 temporaryAt s c x k t = put (number Kind.temporary) (put (number k) (parseAt s c (row x (temporaryFields t) done)))
 

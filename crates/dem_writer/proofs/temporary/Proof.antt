@@ -1,4 +1,4 @@
--- `dem_writer::temporary` meets its contract: what the layout allows of a point is a point's type, and so for a line; an explosion's is its own.
+-- `dem_writer::temporary` meets its contract: what the layout allows of a point is a point's type, and so for a line; type 12 is its own case.
 -- Assumes nothing.
 use mathlib.Core.Path.{_≡_, sym, ap, _∙_, subst}
 use mathlib.Core.List.{_∷_}

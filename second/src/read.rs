@@ -239,7 +239,7 @@ impl Cursor<'_> {
 
     fn entity(&mut self) -> Field<u16> {
         let number = self.s()?;
-        check((0..ENTITIES as i16).contains(&number), RANGE)?;
+        check((0..=MAX_ENTITY as i16).contains(&number), RANGE)?;
         Ok(number as u16)
     }
 
@@ -333,7 +333,7 @@ impl Cursor<'_> {
     fn channel_and_entity(&mut self) -> Field<(u8, u16)> {
         let word = self.s()? as u16;
         let entity = word >> 3;
-        check(entity < ENTITIES as u16, RANGE)?;
+        check(entity <= MAX_ENTITY, RANGE)?;
         Ok(((word & 7) as u8, entity))
     }
 

@@ -2,7 +2,8 @@
 
 use crate::message::{FilledIn, Message};
 
-pub const ENTITIES: usize = 449;
+pub const ENTITIES: usize = 600;
+pub const MAX_ENTITY: u16 = ENTITIES as u16 - 1;
 pub const STATS: usize = 32;
 pub const PLAYERS: usize = 16;
 pub const STATICS: u8 = 128;
@@ -111,7 +112,7 @@ impl Scene {
 
     /// Refusal 14 is given where this is not so.
     pub fn in_ranges(&self) -> bool {
-        self.view < ENTITIES as u16
+        self.view <= MAX_ENTITY
             && self.statics <= STATICS
             && self.limit <= PLAYERS as u8
             && self.time.is_none_or(time_bits_allowed)

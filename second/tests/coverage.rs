@@ -4,7 +4,7 @@
 use second::gen;
 use second::message::*;
 use second::read::{read_recording, Attempt, Step};
-use second::scene::Scene;
+use second::scene::{Baseline, Scene};
 use std::collections::BTreeSet;
 
 type Facts = BTreeSet<String>;
@@ -26,7 +26,7 @@ fn note_message(facts: &mut Facts, step: &Step, before: &Scene) {
     match &step.sent {
         Message::Sound(sound) => {
             bits(facts, "sound", sound.mask.into());
-            note(facts, format!("sound of entity {}", sound.entity));
+            note(facts, format!("sound of entity {} channel {}", sound.entity, sound.channel));
         }
         Message::ClientData(client) => bits(facts, "clientdata", client.mask),
         Message::Update(update) => {
@@ -36,7 +36,9 @@ fn note_message(facts: &mut Facts, step: &Step, before: &Scene) {
         }
         Message::View { entity } => note(facts, format!("view of entity {entity}")),
         Message::Baseline { entity, .. } => note(facts, format!("baseline of entity {entity}")),
-        Message::StopSound { entity, .. } => note(facts, format!("stopsound of entity {entity}")),
+        Message::StopSound { channel, entity } => {
+            note(facts, format!("stopsound of entity {entity} channel {channel}"))
+        }
         Message::Stat { index, .. } => note(facts, format!("stat {index}")),
         Message::Style { style, .. } => note(facts, format!("style {style}")),
         Message::Frags { player, .. } | Message::Colours { player, .. } => {
@@ -96,6 +98,35 @@ fn note_strings(facts: &mut Facts, message: &FilledIn, number: u8) {
     }
 }
 
+/// What an accepted message shows of the tables of entities. `cleared` are those
+/// whose baseline a serverinfo took away.
+fn note_tables(facts: &mut Facts, step: &Step, before: &Scene, cleared: &mut BTreeSet<u16>) {
+    let has_baseline = |entity: &u16| before.baselines[usize::from(*entity)] != Baseline::default();
+    match &step.filled {
+        Message::Update(Update { entity, .. }) if has_baseline(entity) => {
+            note(facts, format!("baseline of entity {entity} fills an update"))
+        }
+        Message::Update(Update { entity, .. }) if cleared.contains(entity) => {
+            note(facts, format!("cleared baseline of entity {entity} fills an update"))
+        }
+        Message::Baseline { entity, .. } => {
+            cleared.remove(entity);
+        }
+        Message::Time { .. } => {
+            for entity in GOOD.into_iter().filter(|entity| before.present[usize::from(*entity)]) {
+                note(facts, format!("mark of entity {entity} taken away by time"));
+            }
+        }
+        Message::ServerInfo(_) => cleared.extend(GOOD.into_iter().filter(has_baseline)),
+        _ => {}
+    }
+}
+
+/// Whether no two are alike.
+fn all_differ<T: PartialEq>(of: &[T]) -> bool {
+    of.iter().enumerate().all(|(i, one)| !of[..i].contains(one))
+}
+
 /// The names in each of serverinfo's lists.
 fn name_counts(names: &[u8]) -> [usize; 2] {
     let mut counts = [0, 0];
@@ -115,7 +146,9 @@ fn note_refusal(facts: &mut Facts, refusal: Refusal, bytes: &[u8], attempt: &Att
     let Refusal { number, place } = refusal;
     note(facts, format!("refusal {number}"));
     let at = bytes.get(place..).unwrap_or_default();
-    let word = |i: usize| at.get(i..i + 2).map(|b| u16::from_le_bytes([b[0], b[1]]));
+    if let Some(fact) = refused_entity(number, at) {
+        note(facts, fact);
+    }
     match (number, at) {
         (2, _) if at.len() < 16 => note(facts, "block head short"),
         (2, _) => note(facts, "block body short"),
@@ -128,22 +161,9 @@ fn note_refusal(facts: &mut Facts, refusal: Refusal, bytes: &[u8], attempt: &Att
         (9, [3, 32, ..]) => note(facts, "stat 32 refused"),
         (9, [12, 64, ..]) => note(facts, "style 64 refused"),
         (9, [20, ..]) => note(facts, "129th static refused"),
-        (9, [what @ (5 | 22), ..]) if word(1) == Some(449) => {
-            note(facts, format!("message {what} of entity 449 refused"))
-        }
-        (9, [23, kind @ ..=13, ..]) if word(2) == Some(449) => {
-            note(facts, format!("line {kind} of entity 449 refused"))
-        }
         // A boundary case ends where its message is cut.
         (5 | 9, [23, kind, ..]) => {
             note(facts, format!("temporary {kind} of {} bytes refused {number}", at.len()))
-        }
-        (9, [0x81, 0x40, 0xC1, 1, ..]) => note(facts, "update of entity 449 refused"),
-        (9, [16, ..]) if word(1).map(|w| w >> 3) == Some(449) => {
-            note(facts, "stopsound of entity 449 refused")
-        }
-        (9, [6, 0, ..]) if word(2).map(|w| w >> 3) == Some(449) => {
-            note(facts, "sound of entity 449 refused")
         }
         (9, [11, 15, 0, 0, 0, limit, ..]) => note(facts, format!("limit {limit} refused")),
         (9, [13 | 14 | 17, player, ..]) => note_player(facts, *player, place, bytes),
@@ -151,6 +171,31 @@ fn note_refusal(facts: &mut Facts, refusal: Refusal, bytes: &[u8], attempt: &Att
         (11, _) => note_after_end(facts, place, attempt),
         _ => {}
     }
+}
+
+/// What a refused message with an entity of two bytes shows: the entity, and where
+/// it is cut.
+fn refused_entity(number: u8, at: &[u8]) -> Option<String> {
+    let (what, place) = match at {
+        [5, ..] => ("view".into(), 1),
+        [6, mask @ ..=3, ..] => ("sound".into(), 2 + mask.count_ones() as usize),
+        [16, ..] => ("stopsound".into(), 1),
+        [22, ..] => ("baseline".into(), 1),
+        [23, kind, ..] if LINES.contains(kind) => (format!("line {kind}"), 2),
+        [128..=255, high, ..] if at[0] & 1 == 1 && high & 0xC0 == 0x40 => ("update".into(), 2),
+        _ => return None,
+    };
+    let [low, high, rest @ ..] = at.get(place..)? else {
+        return (at.len() == place + 1)
+            .then(|| format!("{what} of half an entity refused {number}"));
+    };
+    let word = u16::from_le_bytes([*low, *high]);
+    let entity = match at[0] {
+        6 | 16 => format!("{} channel {}", word >> 3, word & 7),
+        _ => word.to_string(),
+    };
+    let cut = if rest.is_empty() { ", cut behind it" } else { "" };
+    Some(format!("{what} of entity {entity} refused {number}{cut}"))
 }
 
 /// Whether a message's first string has 2,047 letters and then its zero.
@@ -205,9 +250,10 @@ fn note_input(facts: &mut Facts, bytes: &[u8]) {
         note(facts, format!("size {}", block.next - block.place - 16));
     }
     let mut scene = Scene::start();
-    let mut infos = 0;
+    let (mut infos, mut cleared) = (0, BTreeSet::new());
     for step in attempt.blocks.iter().flat_map(|block| &block.messages) {
         note_message(facts, step, &scene);
+        note_tables(facts, step, &scene, &mut cleared);
         scene.apply(&step.filled);
         infos += usize::from(step.number == 11);
     }
@@ -217,6 +263,9 @@ fn note_input(facts: &mut Facts, bytes: &[u8]) {
             note(facts, format!("accepted, ended {}", scene.ended));
             note(facts, format!("accepted, {} serverinfos", infos.min(3)));
             note(facts, format!("accepted, {} blocks", attempt.blocks.len().min(3)));
+            note(facts, format!("baselines all differ: {}", all_differ(&scene.baselines)));
+            note(facts, format!("records all differ: {}", all_differ(&scene.records)));
+            note(facts, format!("all present: {}", scene.present.iter().all(|mark| *mark)));
         }
     }
     if bytes.is_empty() {
@@ -235,9 +284,7 @@ fn required() -> Vec<String> {
         (0..15).filter(|b| *b != 8).for_each(|bit| need(format!("clientdata bit {bit} {on}")));
         (0..15).filter(|b| *b != 7).for_each(|bit| need(format!("update bit {bit} {on}")));
     }
-    for size in [0, 1, 8000] {
-        need(format!("size {size}"));
-    }
+    [0, 1, 8000].iter().for_each(|size| need(format!("size {size}")));
     for message in [8, 9, 12, 13, 26, 31, 34] {
         for len in [0, 2046] {
             need(format!("message {message} string of {len}"));
@@ -248,16 +295,9 @@ fn required() -> Vec<String> {
         need(format!("{count} models"));
         need(format!("{count} sounds"));
     }
-    for entity in [0, 255, 256, 448] {
-        for what in ["view", "baseline", "sound", "stopsound"] {
-            need(format!("{what} of entity {entity}"));
-        }
-        LINES.iter().for_each(|kind| need(format!("line {kind} of entity {entity}")));
-        need(format!("update of entity {entity} width 2"));
-    }
+    required_entities().into_iter().for_each(&mut need);
     (2..8).for_each(|bit| need(format!("message 6 mask {:x}", 1 << bit)));
     (0..=13).for_each(|kind| need(format!("temporary {kind}")));
-    LINES.iter().for_each(|kind| need(format!("line {kind} of entity 449 refused")));
     for (kind, length, number) in [(11, 8, 5), (12, 10, 5), (13, 16, 5), (14, 16, 9), (15, 16, 9)] {
         for len in 2..length {
             need(format!("temporary {kind} of {len} bytes refused {number}"));
@@ -273,10 +313,50 @@ fn required() -> Vec<String> {
     all
 }
 
+/// What must be among the facts about entities: 0 to 599 are good in each message
+/// that has one, and all that its field holds beside them is refused.
+fn required_entities() -> Vec<String> {
+    let mut all = Vec::new();
+    let mut need = |fact: String| all.push(fact);
+    let lines = LINES.map(|kind| format!("line {kind}"));
+    let words = ["view", "baseline", "update"].map(String::from).into_iter().chain(lines);
+    for what in words {
+        let width = if what == "update" { " width 2" } else { "" };
+        GOOD.iter().for_each(|entity| need(format!("{what} of entity {entity}{width}")));
+        for entity in [600, 0x7FFF, 0x8000, 0xFFFF] {
+            need(format!("{what} of entity {entity} refused 9"));
+            need(format!("{what} of entity {entity} refused 9, cut behind it"));
+        }
+        if what != "view" {
+            need(format!("{what} of entity 599 refused 5, cut behind it"));
+        }
+        need(format!("{what} of half an entity refused 5"));
+    }
+    for (what, channel) in [("sound", 0), ("sound", 7), ("stopsound", 0), ("stopsound", 7)] {
+        GOOD.iter().for_each(|entity| need(format!("{what} of entity {entity} channel {channel}")));
+        for entity in [600, 0x0FFF, 0x1000, 0x1FFF] {
+            need(format!("{what} of entity {entity} channel {channel} refused 9"));
+            need(format!("{what} of entity {entity} channel {channel} refused 9, cut behind it"));
+        }
+        need(format!("{what} of half an entity refused 5"));
+    }
+    need("sound of entity 599 channel 7 refused 5, cut behind it".into());
+    for entity in GOOD {
+        need(format!("baseline of entity {entity} fills an update"));
+        need(format!("cleared baseline of entity {entity} fills an update"));
+        need(format!("mark of entity {entity} taken away by time"));
+    }
+    all
+}
+
+/// Entities at the ends of what is good, of what was before request 2026-02, of one
+/// byte and of nine bits.
+const GOOD: [u16; 8] = [0, 255, 256, 448, 449, 511, 512, 599];
+
 /// The types of temporary entities that are lines.
 const LINES: [u8; 4] = [5, 6, 9, 13];
 
-const REQUIRED: [&str; 44] = [
+const REQUIRED: [&str; 42] = [
     "empty input",
     "size 8001 refused",
     "block head short",
@@ -285,11 +365,9 @@ const REQUIRED: [&str; 44] = [
     "update of entity 255 width 1",
     "map of 2046",
     "message 11 string of 2047 refused",
-    "message 5 of entity 449 refused",
-    "message 22 of entity 449 refused",
-    "sound of entity 449 refused",
-    "stopsound of entity 449 refused",
-    "update of entity 449 refused",
+    "baselines all differ: true",
+    "records all differ: true",
+    "all present: true",
     "update bit 15 refused",
     "temporary 14 of 16 bytes refused 9",
     "temporary 255 of 16 bytes refused 9",
@@ -334,9 +412,9 @@ fn generated_inputs_reach_everything() {
 }
 
 /// Random inputs alone, without the boundary cases, must still reach much: the
-/// refusals, the messages and the mask bits.
+/// refusals, the messages, the mask bits and the good entities.
 #[test]
-fn random_inputs_reach_every_message_refusal_and_mask_bit() {
+fn random_inputs_reach_every_message_refusal_mask_bit_and_entity() {
     let mut facts = Facts::new();
     for index in 0..6000 {
         note_input(&mut facts, &gen::generate(2, gen::boundary_count() + index).bytes);
@@ -344,6 +422,7 @@ fn random_inputs_reach_every_message_refusal_and_mask_bit() {
     let wanted = |f: &String| {
         f.starts_with("refusal ")
             || f.contains(" bit ")
+            || f.contains(" of entity ")
             || f.split(' ').count() == 2 && f.starts_with("message ")
     };
     let required = required().into_iter().filter(|f| wanted(f) && !f.contains("refused"));

@@ -130,30 +130,36 @@ fn every_damage_to_every_message() {
     }
 }
 
-/// Every mask of an update, each field equal to the baseline's or not.
+/// Every mask of an update, each field equal to the baseline's or not, of an entity
+/// that needs one byte and of one that needs two.
 #[test]
 fn every_update_mask() {
-    let baseline = [22, 5, 0, 1, 2, 3, 4, 5, 0, 6, 7, 0, 8, 9, 0, 10];
-    for mask in (0..=0x7FFFu16).filter(|mask| mask & 0x80 == 0) {
-        let mut body = baseline.to_vec();
-        for differing in [0, 0x7FFF, mask.wrapping_mul(0x9E35), mask.wrapping_mul(0x6A0D) >> 3] {
-            body.extend(update_of_5(mask, differing));
+    for entity in [[5, 0], [0x57, 2]] {
+        let [low, high] = entity;
+        let baseline = [22, low, high, 1, 2, 3, 4, 5, 0, 6, 7, 0, 8, 9, 0, 10];
+        for mask in (0..=0x7FFFu16).filter(|mask| mask & 0x80 == 0) {
+            let mut body = baseline.to_vec();
+            for differing in [0, 0x7FFF, mask.wrapping_mul(0x9E35), mask.wrapping_mul(0x6A0D) >> 3]
+            {
+                body.extend(update_of(entity, mask, differing));
+            }
+            let bytes = common::recording(&[&body, &body]);
+            let attempt = hold_fast_against_plain(&format!("{entity:?}, mask {mask:x}"), &bytes);
+            assert_eq!((attempt.refusal, attempt.messages()), (None, 10), "mask {mask:x}");
         }
-        let bytes = common::recording(&[&body, &body]);
-        let attempt = hold_fast_against_plain(&format!("mask {mask:x}"), &bytes);
-        assert_eq!((attempt.refusal, attempt.messages()), (None, 10), "mask {mask:x}");
     }
 }
 
-/// An update of entity 5; fields in `differing` are not the baseline's.
-fn update_of_5(mask: u16, differing: u16) -> Vec<u8> {
+/// An update of an entity, whose first byte is sent, or both are; fields in
+/// `differing` are not the baseline's.
+fn update_of([low_entity, high_entity]: [u8; 2], mask: u16, differing: u16) -> Vec<u8> {
     let [low, high] = mask.to_le_bytes();
     let has_high = low & 1 != 0;
     let mut out = vec![low | 0x80];
     out.extend(has_high.then_some(high));
     let sent = if has_high { mask } else { low.into() };
-    out.push(5);
-    out.extend((sent & 0x4000 != 0).then_some(0));
+    out.push(low_entity);
+    out.extend((sent & 0x4000 != 0).then_some(high_entity));
     let fields = [(10, 1), (6, 2), (11, 3), (12, 4), (13, 0)];
     let axes = [(1, 5), (8, 6), (2, 7), (4, 8), (3, 9), (9, 10)];
     for (bit, value) in fields.into_iter().chain(axes) {

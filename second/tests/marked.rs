@@ -107,12 +107,20 @@ fn p11_track_lines() {
 }
 
 #[test]
-fn p12_entity_448_and_449() {
-    let last = read_from(&Scene::start(), &hex("81 40 C0 01"));
+fn p12_entity_599_and_600() {
     let record = Record::default();
-    assert_eq!(last.filled(), &Message::Update(Update { entity: 448, record }));
-    assert!(last.after.present[448]);
-    assert_eq!(refused(&Scene::start(), &hex("81 40 C1 01")), 9);
+    // The second was refused before request 2026-02.
+    for (bytes, entity) in [("81 40 57 02", 599), ("81 40 C1 01", 449)] {
+        let last = read_from(&Scene::start(), &hex(bytes));
+        assert_eq!(last.filled(), &Message::Update(Update { entity, record }));
+        assert_eq!(last.normal(), hex(bytes));
+        let present = last.after.present.iter().enumerate().filter(|(_, mark)| **mark);
+        assert_eq!(present.map(|(i, _)| i).collect::<Vec<_>>(), [usize::from(entity)]);
+    }
+    assert_eq!(refused(&Scene::start(), &hex("81 40 58 02")), 9);
+    for cut in ["81", "81 40", "81 40 57", "81 40 58"] {
+        assert_eq!(refused(&Scene::start(), &hex(cut)), 5, "{cut}");
+    }
 }
 
 fn whole_recording() -> Vec<u8> {

@@ -2,7 +2,7 @@
 
 mod common;
 
-use second::gen::boundary::marked_recording;
+use second::gen::{self, boundary::marked_recording};
 use std::io::Write;
 use std::path::{Path, PathBuf};
 use std::process::{Command, Output, Stdio};
@@ -119,8 +119,8 @@ fn temporary_entities_are_read_and_made() {
         ("p 17 08 0c 00", refused("13 at 0", 8)),
         ("p 17 08 0d 00", refused("13 at 0", 8)),
         ("p 17 10 0c 01", refused("13 at 0", 16)),
-        ("p 17 11 0d 01 c001", format!("  written 16: 170dc001{zeros}ee\n")),
-        ("p 17 11 0d 01 c101", refused("13 at 0", 17)),
+        ("p 17 11 0d 01 5702", format!("  written 16: 170d5702{zeros}ee\n")),
+        ("p 17 11 0d 01 5802", refused("13 at 0", 17)),
         ("p 17 10 0e 01", refused("13 at 0", 16)),
         ("p 17 09 0e 02", refused("12 at 10", 9)),
         ("p 17 0a 0e 02", format!("  written 10: 170c{}\n", &zeros[..16])),
@@ -133,7 +133,8 @@ fn temporary_entities_are_read_and_made() {
     assert_eq!(stdout(&run(&["cases"], script.as_bytes())), expected);
 }
 
-/// Document 01's marked recording, whole and by its parts; packed, 128 statics and one more.
+/// Document 01's marked recording, whole and by its parts; the entity that it has, the last one, and
+/// one beyond; packed, 128 statics and one more.
 #[test]
 fn recordings_are_cases_too() {
     let first = "1a000000 00000000 00000000 00000000 070000803f 160500030000000002000000 00c00000 c205000802";
@@ -141,13 +142,14 @@ fn recordings_are_cases_too() {
     let one = "14 00000000000000000000000000";
     let script = format!(
         "a 00 00 {marked}\nh 00 00 {marked}\ns 00 00\nd 03 00 {marked}\ng 2d 00 {marked}\nd 2d 00 {marked}\ng 3f 00 {marked}\n\
-         e 00 00 0500\nS 0000 0000 0700 0e {one}\nM 0000 0010 000e 0e {one}\n"
+         e 00 00 0500\ne 00 00 5702\ne 00 00 5802\nS 0000 0000 0700 0e {one}\nM 0000 0010 000e 0e {one}\n"
     );
     let scene = "  scene ended=0 time=none limit=0 view=0 pause=0 statics=0\n";
     let timed = scene.replace("none", "3f800000");
     let pose = "angle0=0 y=0 angle1=0 z=192 angle2=0";
     let fields = format!("model=3 frame=0 colormap=0 skin=0 effects=0 x=520 {pose} bit5=0\n");
     let record = format!("  record 5 {fields}");
+    let zeros = "model=0 frame=0 colormap=0 skin=0 x=0 angle0=0 y=0 angle1=0 z=0 angle2=0";
     let ended = timed.replace("ended=0", "ended=1") + &record;
     let many = scene.replace("statics=0", "statics=128");
     let answers = [
@@ -161,6 +163,11 @@ fn recordings_are_cases_too() {
         format!(
             "  baseline model=3 frame=0 colormap=0 skin=0 x=512 {pose}\n  record present=1 {fields}"
         ),
+        format!(
+            "  baseline {zeros}\n  record present=0 {}\n",
+            zeros.replace(" x", " effects=0 x") + " bit5=0"
+        ),
+        String::new(),
         format!("  all messages 128 refusal 0 place 1792\n{many}"),
         format!("  refused 9 at 0\n{many}"),
     ];
@@ -177,15 +184,15 @@ fn refused_scene_is_one_line_on_standard_output() {
 
 #[test]
 fn generate_is_the_same_always() {
-    for index in ["5", "4000"] {
-        let first = run(&["generate", "7", index], b"");
+    let random = gen::boundary_count() + 1;
+    for index in [5, random] {
+        let first = run(&["generate", "7", &index.to_string()], b"");
         assert!(!first.stdout.is_empty());
-        assert_eq!(first.stdout, run(&["generate", "7", index], b"").stdout);
-        let expected = second::gen::generate(7, index.parse().unwrap()).bytes;
-        assert_eq!(first.stdout, expected);
+        assert_eq!(first.stdout, run(&["generate", "7", &index.to_string()], b"").stdout);
+        assert_eq!(first.stdout, gen::generate(7, index).bytes);
     }
-    let (a, b) = (run(&["generate", "7", "4001"], b""), run(&["generate", "8", "4001"], b""));
-    assert_ne!(a.stdout, b.stdout);
+    let of_seed = |seed| run(&["generate", seed, &random.to_string()], b"").stdout;
+    assert_ne!(of_seed("7"), of_seed("8"));
 }
 
 #[test]

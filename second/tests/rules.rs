@@ -179,11 +179,11 @@ fn temporary_entities_of_version_1_08() {
         colour_count: 255,
     };
     let (start, end) = ([0x0201, 0x0403, -251], [0x0807, 0x0A09, 0x0C0B]);
-    let line = Temporary::Line { kind: 13, entity: 448, start, end };
+    let line = Temporary::Line { kind: 13, entity: 599, start, end };
     let scene = scene_after(&hex("82 05 08 02 03 1F FE FF FF FF 07 00 00 80 3F 80 06"));
     for (bytes, temporary) in [
         ("17 0C 01 02 03 04 05 FF 07 FF", explosion2),
-        ("17 0D C0 01 01 02 03 04 05 FF 07 08 09 0A 0B 0C", line),
+        ("17 0D 57 02 01 02 03 04 05 FF 07 08 09 0A 0B 0C", line),
     ] {
         let bytes = hex(bytes);
         let last = read_from(&scene, &bytes);
@@ -195,22 +195,89 @@ fn temporary_entities_of_version_1_08() {
     }
 }
 
+/// The entity of a message that has one, and the channel of a sound.
+fn entity_of(message: &FilledIn) -> (u16, u8) {
+    match message {
+        Message::View { entity } | Message::Baseline { entity, .. } => (*entity, 0),
+        Message::Temporary(Temporary::Line { entity, .. }) => (*entity, 0),
+        Message::Update(update) => (update.entity, 0),
+        Message::Sound(sound) => (sound.entity, sound.channel),
+        Message::StopSound { channel, entity } => (*entity, *channel),
+        other => panic!("{other:?}"),
+    }
+}
+
+/// Only 0 to 599 are good. The word is signed, so half of what is refused is
+/// negative; a sound's has three bits of channel below thirteen of entity.
+#[test]
+fn every_word_in_the_place_of_an_entity() {
+    let scene = Scene::start();
+    let heads = ["05", "16", "17 05", "17 06", "17 09", "17 0D", "81 40", "FF 7F"];
+    let words = heads.map(|head| (head, 0));
+    let sounds = ["06 00", "06 03 09 08", "10"].map(|head| (head, 3));
+    for (head, bits) in words.into_iter().chain(sounds) {
+        let mut message = [hex(head), vec![0; 16]].concat();
+        let place = message.len() - 16;
+        for word in 0..=0xFFFFu16 {
+            message[place..place + 2].copy_from_slice(&word.to_le_bytes());
+            let answer = read_message(&scene, &message, 0);
+            let entity = word >> bits;
+            if entity <= 599 {
+                let step = answer.expect("accepted").expect("a message");
+                assert_eq!(entity_of(&step.filled), (entity, (word - (entity << bits)) as u8));
+            } else {
+                assert_eq!(answer, Err(Refusal { number: 9, place: 0 }), "{head}, {word}");
+            }
+        }
+    }
+}
+
+/// Each of 600 entities has a baseline, a record and a mark of its own, which time
+/// and serverinfo clear for all of them.
+#[test]
+fn tables_of_600_entities() {
+    let baseline = |entity: u16| Baseline { origin: [entity as i16, 1, 2], ..Baseline::default() };
+    let mut scene = Scene::start();
+    assert_eq!((scene.baselines.len(), scene.records.len(), scene.present.len()), (600, 600, 600));
+    for entity in 0..600u16 {
+        let [low, high] = entity.to_le_bytes();
+        let sent = [22, low, high, 0, 0, 0, 0, low, high, 0, 1, 0, 0, 2, 0, 0];
+        scene = read_from(&scene, &sent).after;
+    }
+    for entity in 0..600u16 {
+        let [low, high] = entity.to_le_bytes();
+        let last = read_from(&scene, &[0x81, 0x40, low, high]);
+        let record = Record::from(baseline(entity));
+        assert_eq!(last.filled(), &Message::Update(Update { entity, record }));
+        scene = last.after;
+    }
+    assert_eq!(scene.baselines, std::array::from_fn(|entity| baseline(entity as u16)));
+    assert_eq!(scene.records, scene.baselines.map(Record::from));
+    assert!(scene.present.iter().all(|mark| *mark));
+    let mut timed = Scene { time: Some(0x3F80_0000), ..scene.clone() };
+    timed.present.fill(false);
+    assert_eq!(read_from(&scene, &hex("07 00 00 80 3F")).after, timed);
+    let cleared = read_from(&scene, &server_info(1)).after;
+    assert_eq!(cleared, Scene { limit: 1, ..Scene::start() });
+}
+
 /// A field is whole before its rule, and the rule of an earlier field goes
 /// before a later field's being whole.
 #[test]
 fn order_within_a_message() {
     let scene = Scene::start();
-    let cases: [(&str, u8); 28] = [
+    let cases: [(&str, u8); 31] = [
         ("03", 5),
         ("03 20", 9),
         ("04 0E 00 00", 5),
         ("04 0E 00 00 00", 9),
-        ("05 C1", 5),
-        ("05 C1 01", 9),
+        ("05 58", 5),
+        ("05 58 02", 9),
         ("06 04", 8),
         ("06 01", 5),
-        ("06 00 08", 5),
-        ("06 00 08 0E", 9),
+        ("06 00 C0", 5),
+        ("06 00 C0 12", 9),
+        ("06 04 C0 12", 8),
         ("07 00 00 C0", 5),
         ("0B 0E 00 00 00", 9),
         ("0B 0F 00 00 00 00", 9),
@@ -218,17 +285,19 @@ fn order_within_a_message() {
         ("0D 00", 9),
         ("0F 00", 5),
         ("0F 00 01", 8),
+        ("16 58 02", 9),
         ("17", 5),
-        ("17 05 C1 01", 9),
+        ("17 05 58 02", 9),
         ("17 0C", 5),
         ("17 0C 00 00 00 00 00 00 00", 5),
         ("17 0D", 5),
-        ("17 0D C1", 5),
-        ("17 0D C1 01", 9),
-        ("17 0D C0 01", 5),
+        ("17 0D 58", 5),
+        ("17 0D 58 02", 9),
+        ("17 0D 57 02", 5),
         ("17 0E", 9),
         ("17 FF", 9),
         ("81 80", 8),
+        ("FF 7F 58 02", 9),
     ];
     for (bytes, number) in cases {
         assert_eq!(refused(&scene, &hex(bytes)), number, "{bytes}");
@@ -268,18 +337,23 @@ fn minus_zero_is_zero_and_angles_keep_their_bits() {
 /// all zero.
 #[test]
 fn entity_lines_of_the_scene_text() {
-    // Entities 5 and 6, time, then 7; a zero baseline of 9, and one of 8.
-    let body = hex("82 05 08 02 80 06 07 00 00 80 3F 80 07 \
+    // Entities 5 and 6, time, then 7 and 599; a zero baseline of 9, and others of
+    // 599 and 8.
+    let body = hex("82 05 08 02 80 06 07 00 00 80 3F 80 07 81 40 57 02 \
                     16 09 00 00 00 00 00 00 00 00 00 00 00 00 00 00 \
+                    16 57 02 03 00 00 00 00 00 00 00 00 00 00 00 00 \
                     16 08 00 00 00 00 00 00 00 00 00 00 00 FF FF 80");
     let text = second::text::scene_text(&read_recording(&recording(&[&body])));
     let lines: Vec<&str> = text.lines().skip_while(|line| !line.starts_with("player 15")).collect();
     let expected = [
         "player 15 frags=0 colours=0",
         "baseline 8 model=0 frame=0 colormap=0 skin=0 x=0 angle0=0 y=0 angle1=0 z=-1 angle2=-128",
+        "baseline 599 model=3 frame=0 colormap=0 skin=0 x=0 angle0=0 y=0 angle1=0 z=0 angle2=0",
         "record 5 present=0 model=0 frame=0 colormap=0 skin=0 effects=0 x=520 angle0=0 y=0 \
          angle1=0 z=0 angle2=0 bit5=0",
         "record 7 present=1 model=0 frame=0 colormap=0 skin=0 effects=0 x=0 angle0=0 y=0 \
+         angle1=0 z=0 angle2=0 bit5=0",
+        "record 599 present=1 model=0 frame=0 colormap=0 skin=0 effects=0 x=0 angle0=0 y=0 \
          angle1=0 z=0 angle2=0 bit5=0",
     ];
     assert_eq!(lines, expected);
@@ -291,7 +365,7 @@ fn scene_text_with_every_value() {
     let mut body = server_info(3);
     for message in [
         "03 1F FE FF FF FF",
-        "05 C0 01",
+        "05 57 02",
         "0E 02 FB FF",
         "11 02 44",
         "14 00 00 00 00 00 00 00 00 00 00 00 00 00",
@@ -302,7 +376,7 @@ fn scene_text_with_every_value() {
     }
     let text = second::text::scene_text(&read_recording(&recording(&[&body, &[]])));
     let expected = "accepted\ntrack 0\nblocks 2\nmessages 8\nended 0\ntime none\nlimit 3\n\
-        view 448\npause 9\nstatics 1\n\
+        view 599\npause 9\nstatics 1\n\
         stats -100 0 23 24 22 21 25 26 27 28 29 0 0 0 0 0 0 0 0 0 0 0 0 0 0 0 0 0 0 0 0 -2\n\
         clientdata view_height=1 pitch=2 punch0=3 velocity0=4 punch1=5 velocity1=6 punch2=7 \
         velocity2=8 items=1144201745 ground=1 water=1 weapon_frame=21 armour=22 \
@@ -339,7 +413,6 @@ fn records_that_no_bytes_read_to() {
     assert!(write::write_message(&scene, &print(0, 2046), &long).is_ok());
     assert_eq!(refused(&print(1, 3), b"abc"), 13);
     assert_eq!(refused(&print(usize::MAX, 2), b"abc"), 13);
-    assert_eq!(refused(&Message::View { entity: 449 }, b""), 13);
     assert_eq!(refused(&Message::Version { protocol: 14 }, b""), 13);
     assert_eq!(refused(&Message::Frags { player: 0, frags: 0 }, b""), 13);
     assert_eq!(refused(&Message::StopSound { channel: 8, entity: 0 }, b""), 13);
@@ -351,6 +424,37 @@ fn records_that_no_bytes_read_to() {
     assert_eq!(refused(&update(0x8001, 5, zero), b""), 13);
     assert_eq!(refused(&update(0, 5, Record { model: 1, ..zero }), b""), 13); // not sent
     assert!(write::write_message(&scene, &update(0x4001, 5, zero), b"").is_ok());
+}
+
+/// Each message with an entity of two bytes or thirteen bits, by the entity.
+fn messages_of(entity: u16) -> [AsSent; 6] {
+    let origin = [0; 3];
+    let (mask, volume, attenuation, channel, sound) = (0, 0, 0, 7, 1);
+    [
+        Message::View { entity },
+        Message::Sound(SentSound { mask, volume, attenuation, channel, entity, sound, origin }),
+        Message::StopSound { channel, entity },
+        Message::Baseline { entity, baseline: Baseline::default() },
+        Message::Temporary(Temporary::Line { kind: 5, entity, start: origin, end: origin }),
+        Message::Update(SentUpdate { mask: 0x4001, entity, fields: Record::default() }),
+    ]
+}
+
+/// From 8,192 on an entity has more than the thirteen bits of a sound.
+#[test]
+fn records_of_an_entity_that_no_bytes_read_to() {
+    let written = |sent: &AsSent| write::write_message(&Scene::start(), sent, b"");
+    for entity in [0, 448, 449, 511, 512, 599] {
+        for sent in messages_of(entity) {
+            let bytes = written(&sent).expect("written");
+            assert_eq!(read_from(&Scene::start(), &bytes).step.sent, sent);
+        }
+    }
+    for entity in [600, 1023, 8191, 8192, 8192 + 599, 0x7FFF, 0x8000, 0xFFFF] {
+        for sent in messages_of(entity) {
+            assert_eq!(written(&sent), Err(Refusal { number: 13, place: 0 }), "{sent:?}");
+        }
+    }
 }
 
 /// Each type has one case, which alone is written; a line's entity is in range.
@@ -370,8 +474,8 @@ fn temporary_entities_that_no_bytes_read_to() {
             _ => (Ok(8), refused),
         };
         assert_eq!(written(Temporary::Point { kind, origin }), point_length, "{kind}");
-        assert_eq!(written(line(kind, 448)), line_length, "{kind}");
-        for entity in [449, 0x7FFF, 0x8000, 0xFFFF] {
+        assert_eq!(written(line(kind, 599)), line_length, "{kind}");
+        for entity in [600, 0x7FFF, 0x8000, 0xFFFF] {
             assert_eq!(written(line(kind, entity)), refused, "{kind}");
         }
     }
@@ -386,16 +490,17 @@ fn order_of_refusals_in_writing() {
     assert_eq!(number(&scene), 13);
     scene.ended = true;
     assert_eq!(number(&scene), 11);
-    scene.view = 449;
+    scene.view = 600;
     assert_eq!(number(&scene), 14);
 }
 
 #[test]
 fn ranges_of_a_scene() {
     let good =
-        Scene { view: 448, statics: 128, limit: 16, time: Some(0x7F7F_FFFF), ..Scene::start() };
+        Scene { view: 599, statics: 128, limit: 16, time: Some(0x7F7F_FFFF), ..Scene::start() };
     assert!(good.in_ranges());
-    assert!(!Scene { view: 449, ..good.clone() }.in_ranges());
+    assert!(!Scene { view: 600, ..good.clone() }.in_ranges());
+    assert!(!Scene { view: 0xFFFF, ..good.clone() }.in_ranges());
     assert!(!Scene { statics: 129, ..good.clone() }.in_ranges());
     assert!(!Scene { limit: 17, ..good.clone() }.in_ranges());
     assert!(!Scene { time: Some(0x7F80_0000), ..good.clone() }.in_ranges());

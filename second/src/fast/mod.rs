@@ -16,12 +16,12 @@ mod strings;
 mod update;
 
 use crate::message::Refusal;
+use crate::scene::MAX_ENTITY;
 use output::{Discard, Normal, Output};
 use scene::FastScene;
 
 const BLOCK_HEAD: usize = 16;
 const MAX_SIZE: usize = 8000;
-const MAX_ENTITY: u16 = 448;
 /// The least float bits that are no time: infinity. Sign bits are above it.
 const TIME_END: u32 = 0x7F80_0000;
 

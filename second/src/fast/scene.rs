@@ -55,8 +55,8 @@ pub struct Client {
 
 #[derive(Clone)]
 pub struct FastScene {
-    pub baselines: [Wire; 449],
-    pub records: [Wire; 449],
+    pub baselines: [Wire; plain::ENTITIES],
+    pub records: [Wire; plain::ENTITIES],
     pub stats: [i32; 32],
     pub client: Client,
     pub players: [plain::Player; 16],
@@ -76,8 +76,8 @@ pub struct FastScene {
 impl FastScene {
     pub fn start() -> FastScene {
         FastScene {
-            baselines: [Wire::default(); 449],
-            records: [Wire::default(); 449],
+            baselines: [Wire::default(); plain::ENTITIES],
+            records: [Wire::default(); plain::ENTITIES],
             stats: [0; 32],
             client: Client::default(),
             players: [plain::Player::default(); 16],

@@ -125,7 +125,7 @@ impl TemporaryKind {
     /// Not 0 if the high byte or the width of the entity is needless.
     #[inline(always)]
     fn needless_head(self, entity: u16) -> u32 {
-        (self.0 >> 23 & 1 ^ u32::from(entity >> 8)) | self.0 & 1 << 24
+        (self.0 >> 23 & 1 ^ u32::from(entity > 255)) | self.0 & 1 << 24
     }
 
     #[inline(always)]

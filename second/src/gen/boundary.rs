@@ -3,8 +3,9 @@
 //! Nothing here asks a reader: what is good and what is refused, and where, is
 //! said by the way a case is made.
 
-use super::{Expect, Input};
+use super::{Expect, Input, EDGES};
 use crate::message::Refusal;
+use crate::scene::MAX_ENTITY;
 use crate::write::write_block;
 
 /// Where the messages of the first block begin in `one`.
@@ -24,6 +25,7 @@ pub fn cases() -> Vec<Input> {
     cases.statics();
     cases.entities();
     cases.sound_entities();
+    cases.entity_tables();
     cases.players();
     cases.stats_and_styles();
     cases.temporaries();
@@ -96,6 +98,21 @@ fn zeros(start: &[u8], count: usize) -> Vec<u8> {
 
 fn time(bits: u32) -> Vec<u8> {
     [&[7], &bits.to_le_bytes()[..]].concat()
+}
+
+/// Baselines of which no two are alike; each has its entity's number for its x.
+fn own_baselines(entities: &[u16]) -> Vec<u8> {
+    let own = |entity: &u16| {
+        let [low, high] = entity.to_le_bytes();
+        zeros(&[22, low, high, low, high, 7, 0, low, high], 7)
+    };
+    entities.iter().flat_map(own).collect()
+}
+
+/// An update in two bytes of entity that sends its baseline's x, and the same for y.
+fn own_update(entity: u16) -> Vec<u8> {
+    let [low, high] = entity.to_le_bytes();
+    vec![0x87, 0x40, low, high, low, high, low, high]
 }
 
 impl Cases {
@@ -305,7 +322,7 @@ impl Cases {
 
     fn entities(&mut self) {
         // Each message with an entity of two bytes: before and after it.
-        let places: [(&[u8], usize); 7] = [
+        let places: [(&[u8], usize); 8] = [
             (&[5], 0),
             (&[22], 13),
             (&[23, 5], 12),
@@ -313,38 +330,85 @@ impl Cases {
             (&[23, 9], 12),
             (&[23, 13], 12),
             (&[0x81, 0x40], 0),
+            (&[0xFF, 0x7F], 14),
         ];
+        // The last two are the lowest number and -1.
+        let refused = [MAX_ENTITY + 1, 0x7FFF, 0x8000, 0xFFFF];
         for (head, rest) in places {
-            for entity in [0, 1, 255, 256, 448, 449, 0x7FFF, 0x8000, 0xFFFFu16] {
+            for entity in EDGES.into_iter().chain(refused) {
                 let start = [head, &entity.to_le_bytes()].concat();
-                let message = zeros(&start, rest);
                 let name = format!("message {head:?}, entity {entity}");
-                if entity <= 448 {
-                    self.good(name, &message);
-                } else {
-                    self.bad(format!("{name}, cut"), &[1], &start, 9);
-                    self.bad(name, &[1], &message, 9);
-                }
+                self.entity(&name, entity, &start, rest);
             }
-            self.bad(
-                format!("message {head:?}, half an entity"),
-                &[1],
-                &[head, &[0xC1]].concat(),
-                5,
-            );
         }
-        self.good("update of entity 0 and 255 in one byte", &[0x80, 0, 0x80, 255]);
+        let narrow: Vec<u8> = (0..=255).flat_map(|entity| [0x80, entity]).collect();
+        self.good("update of every entity in one byte", &narrow);
     }
 
     fn sound_entities(&mut self) {
-        for (head, rest) in [(&[6, 0][..], 7), (&[16], 0)] {
-            for word in [0, 7, 448 << 3, 448 << 3 | 7, 449 << 3, 0x7FFF, 0x8000, 0xFFFFu16] {
-                let message = zeros(&[head, &word.to_le_bytes()].concat(), rest);
-                let name = format!("message {head:?}, word {word:x}");
-                match word >> 3 {
-                    0..=448 => self.good(name, &message),
-                    _ => self.bad(name, &[1], &message, 9),
+        // From 0x1000 on the word is negative.
+        let refused = [MAX_ENTITY + 1, 0x0FFF, 0x1000, 0x1FFF];
+        for (head, rest) in [(&[6, 0][..], 7), (&[6, 3, 9, 8], 7), (&[16], 0)] {
+            for entity in EDGES.into_iter().chain(refused) {
+                for channel in [0, 7] {
+                    let word = entity << 3 | channel;
+                    let start = [head, &word.to_le_bytes()].concat();
+                    let name = format!("message {head:?}, entity {entity}, channel {channel}");
+                    self.entity(&name, entity, &start, rest);
                 }
+            }
+        }
+    }
+
+    /// A message whose `start` ends with its entity and whose `rest` is zeros: cut
+    /// inside the entity, behind it and before the last byte, then whole, alone and
+    /// with so much behind it that a reader may look ahead.
+    fn entity(&mut self, name: &str, entity: u16, start: &[u8], rest: usize) {
+        let message = zeros(start, rest);
+        let good = entity <= MAX_ENTITY;
+        let inside = start.len() - 1;
+        self.bad(format!("{name}, cut to {inside}"), &[1], &start[..inside], 5);
+        let cuts = [start.len(), message.len() - 1].into_iter();
+        for len in cuts.filter(|len| (start.len()..message.len()).contains(len)) {
+            let number = if good { 5 } else { 9 };
+            self.bad(format!("{name}, cut to {len}"), &[1], &message[..len], number);
+        }
+        let ahead = [&message[..], &nops(40)].concat();
+        for (name, body) in [(name.into(), message), (format!("{name}, nops behind"), ahead)] {
+            if good {
+                self.good(name, &body);
+            } else {
+                self.bad(name, &[1], &body, 9);
+            }
+        }
+    }
+
+    /// Baselines, records and marks of many entities, no two alike: a table that is
+    /// too short or cleared in part shows, and so does an index that is cut.
+    fn entity_tables(&mut self) {
+        let every: Vec<u16> = (0..=MAX_ENTITY).collect();
+        for (name, entities) in [("some entities", &EDGES[..]), ("every entity", &every)] {
+            let updates = |step| -> Vec<u8> {
+                entities.iter().step_by(step).flat_map(|entity| own_update(*entity)).collect()
+            };
+            // A block has room for 500 baselines.
+            let mut bodies: Vec<Vec<u8>> = entities.chunks(500).map(own_baselines).collect();
+            bodies.push(updates(1));
+            // A mark may be the number of a time that is kept in one byte.
+            let then: [(&str, Vec<u8>); 7] = [
+                ("nothing", vec![]),
+                ("time", time(1)),
+                ("time and updates of every other", [time(1), updates(2)].concat()),
+                ("255 times", time(1).repeat(255)),
+                ("256 times", time(1).repeat(256)),
+                ("serverinfo", server_info(1)),
+                ("serverinfo and updates", [server_info(1), updates(1)].concat()),
+            ];
+            for (what, last) in then {
+                bodies.push(last);
+                let all: Vec<&[u8]> = bodies.iter().map(Vec::as_slice).collect();
+                self.accept(format!("baselines and updates of {name}, then {what}"), blocks(&all));
+                bodies.pop();
             }
         }
     }
@@ -592,19 +656,25 @@ pub fn marked_recording() -> Vec<u8> {
     out
 }
 
-/// Every message once, updates and clientdata with every field.
+/// Every message once, updates and clientdata with every field, entities mostly the
+/// last one.
 pub fn tour() -> Vec<Vec<u8>> {
     let with_text = |head: &[u8]| [head, b"text\0"].concat();
+    let last = |head: &[u8], rest| zeros(&[head, &MAX_ENTITY.to_le_bytes()].concat(), rest);
+    let heard = |head: &[u8], rest| {
+        let word = MAX_ENTITY << 3 | 1;
+        zeros(&[head, &word.to_le_bytes()].concat(), rest)
+    };
     let mut messages = vec![server_info(4), vec![1], vec![3, 31, 1, 0, 0, 0], vec![4, 15, 0, 0, 0]];
-    messages.extend([vec![5, 1, 0], zeros(&[6, 3, 9, 8, 0x29, 0], 7), time(0x3F80_0000)]);
+    messages.extend([last(&[5], 0), heard(&[6, 3, 9, 8], 7), time(0x3F80_0000)]);
     messages.extend([8, 9, 26, 31, 34].map(|number| with_text(&[number])));
     messages.extend([vec![10, 1, 2, 3], with_text(&[12, 63]), with_text(&[13, 3])]);
-    messages.extend([vec![14, 3, 1, 0], zeros(&[15, 0xFF, 0x7E], 23), vec![16, 0x29, 0]]);
+    messages.extend([vec![14, 3, 1, 0], zeros(&[15, 0xFF, 0x7E], 23), heard(&[16], 0)]);
     messages.extend([vec![17, 3, 0x44], zeros(&[18], 11), zeros(&[19], 8), zeros(&[20], 13)]);
-    messages.extend([zeros(&[22, 5, 0, 3], 12), zeros(&[23, 4], 6), zeros(&[23, 5, 5, 0], 12)]);
-    messages.push(zeros(&[23, 12], 8));
+    messages.extend([zeros(&[22, 5, 0, 3], 12), last(&[22], 13), zeros(&[23, 4], 6)]);
+    messages.extend([last(&[23, 5], 12), zeros(&[23, 12], 8)]);
     messages.extend([vec![24, 1], vec![25, 3], vec![27], vec![28], zeros(&[29], 9), vec![30]]);
-    messages.extend([vec![32, 2, 3], vec![33], zeros(&[0xFF, 0x7F, 0, 1], 14)]);
+    messages.extend([vec![32, 2, 3], vec![33], last(&[0xFF, 0x7F], 14)]);
     messages.extend([vec![0x80, 5], vec![0xC2, 5, 1, 2, 0], vec![2]]);
     messages
 }

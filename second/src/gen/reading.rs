@@ -1,6 +1,7 @@
 //! Random readings that document 01 accepts.
 
 use super::rng::Rng;
+use super::EDGES;
 use crate::message::*;
 use crate::read::Reading;
 use crate::scene::*;
@@ -144,7 +145,7 @@ impl Rng {
 /// A few entities come often, so that baselines and updates meet.
 fn entity(rng: &mut Rng) -> u16 {
     if rng.chance(80) {
-        rng.pick(&[0, 1, 5, 254, 255, 256, 257, 447, 448])
+        rng.pick(&EDGES)
     } else {
         rng.below(ENTITIES) as u16
     }

@@ -70,10 +70,10 @@ static SECOND_GROUPS: [Group; 64] = second_groups();
 /// What an update's first two bytes, number and high byte or entity, say of the
 /// rest. The next message waits for the length, so all of it is one load.
 #[derive(Clone, Copy)]
-struct TemporaryKind(u32);
+struct Shape(u32);
 
-impl TemporaryKind {
-    const fn new(low: u8, second: u8) -> TemporaryKind {
+impl Shape {
+    const fn new(low: u8, second: u8) -> Shape {
         let has_high = low & 1 == 1;
         let high = if has_high { second } else { 0 };
         let (first, axes) = groups(low, high);
@@ -81,7 +81,7 @@ impl TemporaryKind {
         let fields = 2 + has_high as u32 + wide;
         let length =
             fields + group(first, &FIRST).length as u32 + group(axes, &SECOND).length as u32;
-        TemporaryKind(
+        Shape(
             length
                 | (fields - 2) << 8
                 | (1 - wide) << 11
@@ -134,15 +134,15 @@ impl TemporaryKind {
     }
 }
 
-static SHAPES: [[TemporaryKind; 256]; 128] = shapes();
+static SHAPES: [[Shape; 256]; 128] = shapes();
 
-const fn shapes() -> [[TemporaryKind; 256]; 128] {
-    let mut shapes = [[TemporaryKind(0); 256]; 128];
+const fn shapes() -> [[Shape; 256]; 128] {
+    let mut shapes = [[Shape(0); 256]; 128];
     let mut low = 0;
     while low < 128 {
         let mut second = 0;
         while second < 256 {
-            shapes[low][second] = TemporaryKind::new(low as u8, second as u8);
+            shapes[low][second] = Shape::new(low as u8, second as u8);
             second += 1;
         }
         low += 1;
@@ -157,7 +157,7 @@ const WINDOW: usize = 32;
 /// from the baseline; bytes 14 and 15 are the baseline's, 0.
 #[target_feature(enable = "ssse3")]
 #[inline]
-fn fill(window: &[u8; WINDOW], shape: TemporaryKind, base: __m128i) -> __m128i {
+fn fill(window: &[u8; WINDOW], shape: Shape, base: __m128i) -> __m128i {
     let (first, axes) = (shape.first(), shape.axes());
     let (spread_first, spread_axes) = (first.spread.load(), axes.spread.load());
     let fields = shape.fields();
@@ -182,7 +182,7 @@ fn load(window: &[u8; WINDOW], at: usize) -> __m128i {
 /// The fields sent that do not differ from the baseline: a bit for each, at the
 /// first of its bytes.
 #[inline(always)]
-fn needless(shape: TemporaryKind, record: __m128i, base: __m128i) -> u32 {
+fn needless(shape: Shape, record: __m128i, base: __m128i) -> u32 {
     // SAFETY: SSE2 is part of x86_64.
     let equal = unsafe { _mm_movemask_epi8(_mm_cmpeq_epi8(record, base)) } as u32;
     let equal_fields = equal & (equal >> 1 | !PAIRS);

@@ -1,15 +1,14 @@
 -- The types of temporary entities, each by the bytes that it has behind the message's number: an origin, an entity and two places, or an
--- origin and colours. Every other type is refused, and so is the first number past the entities where the type has one.
+-- origin and colours. Every other type is refused.
 -- Assumes nothing.
 use mathlib.Core.Path.{_≡_, refl}
-use mathlib.Core.List.{List, [], _∷_, _++_}
-use mathlib.Core.Bool.{true, cond}
+use mathlib.Core.List.{List, [], _∷_}
+use mathlib.Core.Bool.{true}
 use Prim.Native.Nat.{ℕ, _-_}
 use lib.Dec.{eqb}
 use lib.ListN.{length, getD, replicate}
-use Rattle.format.specs.Bytes.{Result, found, refused, readNumber, leWrite}
+use Rattle.format.specs.Bytes.{Result, found, refused, readNumber}
 use Rattle.format.specs.Layout.{Value, parse}
-use Rattle.dem.specs.Limits.{entityCount}
 use Rattle.dem.specs.Scene.{Context}
 use Rattle.dem.specs.Message.{kindLayout}
 use Rattle.dem.specs.Kind
@@ -20,9 +19,9 @@ abbrev taken : Result (List Value) → ℕ
 taken (found vs rest) = 15 - length rest
 taken (refused n left) = 0
 
--- Of a type, an entity where it has one, and zeros.
-abbrev size : Context → ℕ → ℕ → ℕ
-size c entity type = taken (parse (kindLayout c Kind.temporary) (type ∷ leWrite 2 entity ++ replicate 12 0))
+-- Of a type, and zeros.
+abbrev size : Context → ℕ → ℕ
+size c type = taken (parse (kindLayout c Kind.temporary) (type ∷ replicate 14 0))
 
 abbrev lineSize : ℕ
 lineSize = 15
@@ -32,11 +31,6 @@ abbrev sizes : List ℕ
 sizes = 7 ∷ 7 ∷ 7 ∷ 7 ∷ 7 ∷ lineSize ∷ lineSize ∷ 7 ∷ 7 ∷ lineSize ∷ 7 ∷ 7 ∷ 9 ∷ lineSize ∷ []
 
 -- One test computed over every type.
-pub type-sizes : (c : Context) → each (λ k. eqb (size c (entityCount - 1) k) (getD sizes k 0)) 0 256 ≡ true
+pub type-sizes : (c : Context) → each (λ k. eqb (size c k) (getD sizes k 0)) 0 256 ≡ true
 unfolding kindLayout parse readNumber
 type-sizes c = refl
-
-pub entity-bounded : (c : Context)
-    → each (λ k. let s = getD sizes k 0 in eqb (size c entityCount k) (cond (eqb s lineSize) 0 s)) 0 256 ≡ true
-unfolding kindLayout parse readNumber
-entity-bounded c = refl

@@ -319,8 +319,8 @@ fn required_entities() -> Vec<String> {
     let mut all = Vec::new();
     let mut need = |fact: String| all.push(fact);
     let lines = LINES.map(|kind| format!("line {kind}"));
-    let words = ["view", "baseline", "update"].map(String::from).into_iter().chain(lines);
-    for what in words {
+    let others = ["view", "baseline", "update"].map(String::from);
+    for what in others.into_iter().chain(lines) {
         let width = if what == "update" { " width 2" } else { "" };
         GOOD.iter().for_each(|entity| need(format!("{what} of entity {entity}{width}")));
         for entity in [600, 0x7FFF, 0x8000, 0xFFFF] {

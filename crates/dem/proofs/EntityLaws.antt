@@ -1,5 +1,5 @@
--- The messages that name an entity in two bytes: whatever the two bytes are, an entity below the count is read, and any other is refused
--- as a wrong number. An update's entity in one byte is never refused.
+-- The messages that name an entity in two bytes, those with a mask in their shortest and their longest form: whatever the two bytes are, an
+-- entity below the count is accepted, and any other is refused as a wrong number. An update's entity in one byte is never refused.
 -- Assumes nothing.
 use mathlib.Core.Path.{_≡_, refl}
 use mathlib.Core.List.{List, [], _∷_, _++_, map}
@@ -25,6 +25,7 @@ abbrev namings : List Naming
 namings =
     naming (Kind.view ∷ []) false 0
     ∷ naming (Kind.sound ∷ 0 ∷ []) true 7
+    ∷ naming (Kind.sound ∷ 3 ∷ 0 ∷ 0 ∷ []) true 7
     ∷ naming (16 ∷ []) true 0  -- stopsound
     ∷ naming (Kind.baseline ∷ []) false 13
     ∷ naming (Kind.temporary ∷ 5 ∷ []) false 12
@@ -32,6 +33,7 @@ namings =
     ∷ naming (Kind.temporary ∷ 9 ∷ []) false 12
     ∷ naming (Kind.temporary ∷ 13 ∷ []) false 12
     ∷ naming (0x81 ∷ 0x40 ∷ []) false 0  -- update
+    ∷ naming (0xFF ∷ 0x7F ∷ []) false 14
     ∷ []
 
 abbrev refusalOf : Result (List Value) → ℕ

@@ -1,9 +1,9 @@
 -- The types of temporary entities, each by the bytes that it has behind the message's number: an origin, an entity and two places, or an
--- origin and colours. Every other type is refused.
+-- origin and colours. Every other type is refused, and so is all ones where an entity is asked for, which is just in the lines.
 -- Assumes nothing.
 use mathlib.Core.Path.{_≡_, refl}
 use mathlib.Core.List.{List, [], _∷_}
-use mathlib.Core.Bool.{true}
+use mathlib.Core.Bool.{true, cond}
 use Prim.Native.Nat.{ℕ, _-_}
 use lib.Dec.{eqb}
 use lib.ListN.{length, getD, replicate}
@@ -19,9 +19,9 @@ abbrev taken : Result (List Value) → ℕ
 taken (found vs rest) = 15 - length rest
 taken (refused n left) = 0
 
--- Of a type, and zeros.
-abbrev size : Context → ℕ → ℕ
-size c type = taken (parse (kindLayout c Kind.temporary) (type ∷ replicate 14 0))
+-- Of a type, and one byte again and again.
+abbrev size : Context → ℕ → ℕ → ℕ
+size c byte type = taken (parse (kindLayout c Kind.temporary) (type ∷ replicate 14 byte))
 
 abbrev lineSize : ℕ
 lineSize = 15
@@ -31,6 +31,10 @@ abbrev sizes : List ℕ
 sizes = 7 ∷ 7 ∷ 7 ∷ 7 ∷ 7 ∷ lineSize ∷ lineSize ∷ 7 ∷ 7 ∷ lineSize ∷ 7 ∷ 7 ∷ 9 ∷ lineSize ∷ []
 
 -- One test computed over every type.
-pub type-sizes : (c : Context) → each (λ k. eqb (size c k) (getD sizes k 0)) 0 256 ≡ true
+pub type-sizes : (c : Context) → each (λ k. eqb (size c 0 k) (getD sizes k 0)) 0 256 ≡ true
 unfolding kindLayout parse readNumber
 type-sizes c = refl
+
+pub lines-alone-bounded : (c : Context) → each (λ k. let s = getD sizes k 0 in eqb (size c 255 k) (cond (eqb s lineSize) 0 s)) 0 256 ≡ true
+unfolding kindLayout parse readNumber
+lines-alone-bounded c = refl

@@ -100,7 +100,7 @@ fn time(bits: u32) -> Vec<u8> {
     [&[7], &bits.to_le_bytes()[..]].concat()
 }
 
-/// Baselines of which no two are alike; each has its entity's number for its x.
+/// Baselines, each with its entity's number for its x and for its model and frame.
 fn own_baselines(entities: &[u16]) -> Vec<u8> {
     let own = |entity: &u16| {
         let [low, high] = entity.to_le_bytes();
@@ -340,6 +340,7 @@ impl Cases {
                 let name = format!("message {head:?}, entity {entity}");
                 self.entity(&name, entity, &start, rest);
             }
+            self.half_an_entity(head);
         }
         let narrow: Vec<u8> = (0..=255).flat_map(|entity| [0x80, entity]).collect();
         self.good("update of every entity in one byte", &narrow);
@@ -357,17 +358,22 @@ impl Cases {
                     self.entity(&name, entity, &start, rest);
                 }
             }
+            self.half_an_entity(head);
         }
     }
 
+    /// A message that ends behind the low byte of an entity that would be refused.
+    fn half_an_entity(&mut self, head: &[u8]) {
+        let start = [head, &[0xFF]].concat();
+        self.bad(format!("message {head:?}, half an entity"), &[1], &start, 5);
+    }
+
     /// A message whose `start` ends with its entity and whose `rest` is zeros: cut
-    /// inside the entity, behind it and before the last byte, then whole, alone and
-    /// with so much behind it that a reader may look ahead.
+    /// behind the entity and before the last byte, then whole, alone and with so much
+    /// behind it that a reader may look ahead.
     fn entity(&mut self, name: &str, entity: u16, start: &[u8], rest: usize) {
         let message = zeros(start, rest);
         let good = entity <= MAX_ENTITY;
-        let inside = start.len() - 1;
-        self.bad(format!("{name}, cut to {inside}"), &[1], &start[..inside], 5);
         let cuts = [start.len(), message.len() - 1].into_iter();
         for len in cuts.filter(|len| (start.len()..message.len()).contains(len)) {
             let number = if good { 5 } else { 9 };
@@ -394,7 +400,7 @@ impl Cases {
             // A block has room for 500 baselines.
             let mut bodies: Vec<Vec<u8>> = entities.chunks(500).map(own_baselines).collect();
             bodies.push(updates(1));
-            // A mark may be the number of a time that is kept in one byte.
+            // A reader may keep a mark as a count of times, in one byte.
             let then: [(&str, Vec<u8>); 7] = [
                 ("nothing", vec![]),
                 ("time", time(1)),

@@ -15,10 +15,10 @@ use crate::scene::MAX_ENTITY;
 use rng::Rng;
 use std::sync::OnceLock;
 
-/// The entity of the marked cases, and those beside the ends of one byte, of nine
-/// bits, of the range and of what it was before request 2026-02. Cut to nine bits,
-/// 512 is 0 and the last is the fourth.
-pub const EDGES: [u16; 11] = [0, 1, 5, MAX_ENTITY & 0xFF, 255, 256, 448, 449, 511, 512, MAX_ENTITY];
+/// Entities at the ends of one byte, of nine bits, of the range and of the range
+/// before request 2026-02; that of the marked cases; and what the last one is if it
+/// is cut to nine bits.
+pub const EDGES: [u16; 10] = [0, 5, MAX_ENTITY & 0x1FF, 255, 256, 448, 449, 511, 512, MAX_ENTITY];
 
 /// What is known of an input's answer without reading it.
 #[derive(Clone, Copy, Debug, PartialEq, Eq)]

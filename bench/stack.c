@@ -26,7 +26,7 @@ static void fail(const char *what)
     exit(2);
 }
 
-static void *made(size_t size)
+static void *allocated(size_t size)
 {
     void *memory = aligned_alloc(4096, (size + 4095) / 4096 * 4096);
     if (memory == NULL)
@@ -54,7 +54,7 @@ static size_t depth(struct call call, int normalises)
     pthread_attr_t attributes;
     pthread_t thread;
     call.normalises = normalises;
-    call.stack = made(STACK);
+    call.stack = allocated(STACK);
     memset(call.stack, PAINT, STACK);
     if (pthread_attr_init(&attributes) || pthread_attr_setstack(&attributes, call.stack, STACK)
         || pthread_create(&thread, &attributes, measure, &call) || pthread_join(thread, NULL))
@@ -71,7 +71,7 @@ int main(int argc, char **argv)
         if (file == NULL || fseek(file, 0, SEEK_END) || (length = ftell(file)) < 0)
             fail(argv[i]);
         rewind(file);
-        uint8_t *bytes = made(length + 1), *room = made(length + 1);
+        uint8_t *bytes = allocated(length + 1), *room = allocated(length + 1);
         if (fread(bytes, 1, length, file) != (size_t)length)
             fail(argv[i]);
         fclose(file);

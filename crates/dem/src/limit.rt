@@ -1,4 +1,5 @@
-// The numbers that document 01 and the requests of document 02 set, as specs/Limits.antt names them. A number of one type that is needed at another is made of it.
+// The numbers that document 01 and the requests of document 02 set, as specs/Limits.antt names them. A number of one type that is needed
+// at another is made of it.
 
 // Entities: the length of their tables, and the bound of their numbers.
 pub const ENTITY_COUNT: usize = 600;

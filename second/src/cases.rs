@@ -65,6 +65,7 @@ impl State {
         match letter {
             's' => self.scene = self.all(bytes, &Scene::start()),
             'o' => self.scene.statics = 129,
+            'c' => self.set_count(bytes),
             'm' => self.message(bytes, place, len),
             'n' => self.normal_message(bytes, place, len),
             'p' => self.write(bytes, place, len),
@@ -97,7 +98,7 @@ impl State {
         let (mut scene, mut at, mut messages) = (given.clone(), 0, 0);
         let mut refusal = None;
         loop {
-            match read_at(&scene, bytes, at) {
+            match read_message(&scene, bytes, at) {
                 Ok(None) => break,
                 Ok(Some(step)) => {
                     scene.apply(&step.filled);
@@ -117,7 +118,7 @@ impl State {
     }
 
     fn message(&mut self, bytes: &[u8], at: usize, len: usize) {
-        let answer = read_at(&self.scene, bytes, at);
+        let answer = read_message(&self.scene, bytes, at);
         self.out.push_str(&answer_lines(&answer));
         match answer {
             Ok(Some(step)) => {
@@ -196,7 +197,7 @@ impl State {
     }
 
     fn block(&mut self, bytes: &[u8], at: usize) {
-        let answer = block_at(&self.scene, bytes, at).map(|found| {
+        let answer = read_block(&self.scene, bytes, at).map(|found| {
             let Some((block, after)) = found else { return "end".into() };
             self.scene = after;
             let [a, b, c] = block.angles;
@@ -210,12 +211,12 @@ impl State {
     /// As many blocks as can be read, and the refusal that is met behind them.
     fn blocks(&mut self, bytes: &[u8], place: usize) {
         if !self.scene.in_ranges() || place > bytes.len() {
-            let refusal = block_at(&self.scene, bytes, place).expect_err("refused");
+            let refusal = read_block(&self.scene, bytes, place).expect_err("refused");
             return self.told(Err(refusal));
         }
         let (mut at, mut blocks, mut messages) = (place, 0, 0);
         let Refusal { number, place } = loop {
-            match block_at(&self.scene, bytes, at) {
+            match read_block(&self.scene, bytes, at) {
                 Ok(None) => break Refusal { number: 0, place: at },
                 Err(refusal) => break refusal,
                 Ok(Some((block, after))) => {
@@ -242,8 +243,14 @@ impl State {
         }
     }
 
+    /// The number of present marks, in two bytes, whatever the marks are.
+    fn set_count(&mut self, bytes: &[u8]) {
+        let [low, high, ..] = bytes else { return };
+        self.scene.present_count = u16::from_le_bytes([*low, *high]);
+    }
+
     fn normal_message(&mut self, bytes: &[u8], at: usize, len: usize) {
-        let found = read_at(&self.scene, bytes, at).map(|step| {
+        let found = read_message(&self.scene, bytes, at).map(|step| {
             step.map(|step| {
                 let mut after = self.scene.clone();
                 after.apply(&step.filled);
@@ -254,7 +261,7 @@ impl State {
     }
 
     fn normal_block(&mut self, bytes: &[u8], at: usize, len: usize) {
-        let found = block_at(&self.scene, bytes, at).map(|block| {
+        let found = read_block(&self.scene, bytes, at).map(|block| {
             block.map(|(block, after)| (normal_block(&self.scene, &block), block.next, after))
         });
         self.put_normal(found, len);
@@ -277,12 +284,12 @@ impl State {
     fn normal_blocks(&mut self, bytes: &[u8], place: usize, len: usize) {
         let mut room = vec![EMPTY; len];
         if !self.scene.in_ranges() || place > bytes.len() {
-            let refusal = block_at(&self.scene, bytes, place).expect_err("refused");
+            let refusal = read_block(&self.scene, bytes, place).expect_err("refused");
             return self.in_room(Err(refusal), &room);
         }
         let (mut at, mut written, mut blocks, mut messages) = (place, 0, 0, 0);
         let refusal = loop {
-            let (block, after) = match block_at(&self.scene, bytes, at) {
+            let (block, after) = match read_block(&self.scene, bytes, at) {
                 Ok(None) => break Refusal { number: 0, place: at },
                 Err(refusal) => break refusal,
                 Ok(Some(found)) => found,
@@ -324,7 +331,7 @@ impl State {
         let given = self.scene.clone();
         let mut at = 0;
         for _ in 0..3 {
-            let answer = read_at(&self.scene, bytes, at);
+            let answer = read_message(&self.scene, bytes, at);
             self.out.push_str(&answer_lines(&answer));
             if let Ok(Some(step)) = answer {
                 self.scene.apply(&step.filled);
@@ -378,7 +385,7 @@ impl State {
         let lent: &mut [Player; PLAYERS] =
             (&mut self.lines[..count]).try_into().map_err(|_| Refusal { number: 14, place: 0 })?;
         let mut scene = Scene { players: *lent, ..self.scene.clone() };
-        let answer = read_at(&scene, bytes, at)?;
+        let answer = read_message(&scene, bytes, at)?;
         if let Some(step) = &answer {
             scene.apply(&step.filled);
             *lent = scene.players;
@@ -416,21 +423,6 @@ fn change_lines(lines: &mut [Player], kind: u8, player: u8, value: [u8; 2]) -> R
         _ => {}
     }
     Ok(())
-}
-
-/// As the entries have it: a scene out of its ranges is 14, whatever the place.
-fn read_at(scene: &Scene, bytes: &[u8], at: usize) -> Result<Option<Step>, Refusal> {
-    if !scene.in_ranges() {
-        return Err(Refusal { number: 14, place: 0 });
-    }
-    read_message(scene, bytes, at)
-}
-
-fn block_at(scene: &Scene, bytes: &[u8], at: usize) -> Result<Option<(Block, Scene)>, Refusal> {
-    if !scene.in_ranges() {
-        return Err(Refusal { number: 14, place: 0 });
-    }
-    read_block(scene, bytes, at)
 }
 
 fn normal_block(scene: &Scene, block: &Block) -> Vec<u8> {
@@ -508,11 +500,11 @@ fn named<T: Fields, S: Fields, C: Fields, U: Fields>(message: &Message<T, S, C, 
 /// The single values, then what is not as at the start of the stats, the players
 /// and the marked records.
 fn scene_lines(scene: &Scene) -> String {
-    let Scene { ended, limit, view, pause, statics, .. } = scene;
+    let Scene { ended, limit, view, pause, statics, present_count, .. } = scene;
     let time = scene.time.map_or("none".into(), |bits| format!("{bits:08x}"));
     let mut out = format!("  scene ended={} time={time}", u8::from(*ended));
     let _ = write!(out, " limit={limit} view={view}");
-    let _ = write!(out, " pause={pause} statics={statics}");
+    let _ = write!(out, " pause={pause} statics={statics} present={present_count}");
     for (i, stat) in scene.stats.iter().enumerate().filter(|(_, stat)| **stat != 0) {
         let _ = write!(out, " stat {i}={stat}");
     }

@@ -1,20 +1,74 @@
 //! Runs any program beside this reader and says where their answers differ.
 
 use crate::gen::rng::Rng;
+use crate::gen::words::{self, Question};
 use crate::gen::{self, encode, Input};
 use crate::message::Refusal;
 use crate::read::read_recording;
-use crate::text::scene_text;
-use crate::{fast, write};
+use crate::text::{overlay_text, scene_text};
+use crate::{fast, given, write};
 use std::fs::{self, File};
 use std::io::{self, Seek, Write};
 use std::path::{Path, PathBuf};
 use std::process::{Child, ChildStdin, Command, Stdio};
 
+/// What is compared: the answers of the commands of the same names.
 #[derive(Clone, Copy, PartialEq, Eq)]
 pub enum Mode {
     Normal,
     Scene,
+    Overlay,
+    Given,
+}
+
+/// Of the lists of words one in so many is about each real recording.
+const LIST_STEP: usize = 12;
+
+impl Mode {
+    pub fn of(name: &str) -> Option<Mode> {
+        match name {
+            "normal" => Some(Mode::Normal),
+            "scene" => Some(Mode::Scene),
+            "overlay" => Some(Mode::Overlay),
+            "given" => Some(Mode::Given),
+            _ => None,
+        }
+    }
+
+    /// How many inputs are boundary cases.
+    pub fn boundary_count(self) -> usize {
+        match self {
+            Mode::Given => words::boundary_count(),
+            _ => gen::boundary_count(),
+        }
+    }
+
+    /// How many random inputs are run if no number is asked for.
+    pub fn random_count(self) -> usize {
+        match self {
+            Mode::Given => 600,
+            _ => 2000,
+        }
+    }
+
+    /// The `index`-th input of a seed.
+    fn input(self, seed: u64, index: usize) -> Question {
+        match self {
+            Mode::Given => words::question(seed, index),
+            _ => {
+                let Input { name, bytes, .. } = gen::generate(seed, index);
+                Question { name, recording: bytes, words: Vec::new() }
+            }
+        }
+    }
+
+    /// What is asked of a real recording.
+    fn inputs_of(self, name: &str, recording: Vec<u8>) -> Vec<Question> {
+        match self {
+            Mode::Given => words::about(name, &recording, LIST_STEP),
+            _ => vec![Question { name: name.into(), recording, words: Vec::new() }],
+        }
+    }
 }
 
 pub struct Options {
@@ -42,26 +96,49 @@ pub struct Answer {
 }
 
 /// What this reader answers; `Err` where its two readers do not agree.
-pub fn expected(mode: Mode, bytes: &[u8]) -> Result<Answer, String> {
-    if mode == Mode::Scene {
-        let out = scene_text(&read_recording(bytes)).into_bytes();
-        return Ok(Answer { out, err: Vec::new() });
+pub fn expected(mode: Mode, question: &Question) -> Result<Answer, String> {
+    let bytes = &question.recording;
+    let answer = |out: Vec<u8>, err: String| Answer { out, err: err.into_bytes() };
+    let text = |out: String| answer(out.into_bytes(), String::new());
+    match mode {
+        Mode::Normal => {
+            let (out, refusal) = write::normal(bytes);
+            let mut fast_out = Vec::new();
+            let fast_refusal = fast::normal(bytes, &mut fast_out).err();
+            agree((&fast_out, fast_refusal) == (&out, refusal))?;
+            Ok(answer(out, refusal_line(refusal)))
+        }
+        Mode::Scene => Ok(text(scene_text(&read_recording(bytes)))),
+        Mode::Overlay => {
+            let attempt = read_recording(bytes);
+            let counts = attempt.present_counts();
+            agree(fast::overlay(bytes) == (counts.clone(), attempt.refusal))?;
+            Ok(text(overlay_text(&counts, attempt.refusal)))
+        }
+        Mode::Given => Ok(match given::answer(bytes, &question.words) {
+            Ok(out) => text(out),
+            Err(word) => answer(Vec::new(), given::wrong_word(&word)),
+        }),
     }
-    let (out, refusal) = write::normal(bytes);
-    let mut fast_out = Vec::new();
-    let fast_refusal = fast::normal(bytes, &mut fast_out).err();
-    if (&fast_out, fast_refusal) != (&out, refusal) {
-        return Err("the plain and the fast reader differ".into());
-    }
-    Ok(Answer { out, err: refusal_line(refusal).into_bytes() })
+}
+
+fn agree(readers: bool) -> Result<(), String> {
+    readers.then_some(()).ok_or("the plain and the fast reader differ".into())
 }
 
 fn refusal_line(refusal: Option<Refusal>) -> String {
     refusal.map_or(String::new(), |refusal| format!("{refusal}\n"))
 }
 
-/// Runs all inputs; how many of them differ.
-pub fn compare(options: &Options) -> io::Result<usize> {
+/// How many inputs were run, and how many differences were found.
+#[derive(Clone, Copy)]
+pub struct Counts {
+    pub inputs: usize,
+    pub differences: usize,
+}
+
+/// Runs all inputs.
+pub fn compare(options: &Options) -> io::Result<Counts> {
     let scratch = std::env::temp_dir().join(format!("second-compare-{}", std::process::id()));
     let mut runner = Runner {
         options,
@@ -72,11 +149,11 @@ pub fn compare(options: &Options) -> io::Result<usize> {
             .truncate(true)
             .open(&scratch)?,
         scratch_path: scratch.clone(),
-        differences: 0,
+        counts: Counts { inputs: 0, differences: 0 },
     };
     let result = runner.all();
     fs::remove_file(&scratch)?;
-    result.map(|()| runner.differences)
+    result.map(|()| runner.counts)
 }
 
 struct Runner<'a> {
@@ -84,40 +161,51 @@ struct Runner<'a> {
     /// Holds the input that the program reads.
     scratch: File,
     scratch_path: PathBuf,
-    differences: usize,
+    counts: Counts,
 }
 
 impl Runner<'_> {
     fn all(&mut self) -> io::Result<()> {
+        let Options { mode, seed, first, count, .. } = *self.options;
         for path in &self.options.recordings {
             let name = path.file_name().unwrap_or_default().to_string_lossy();
-            self.one(&name, &fs::read(path)?)?;
+            for question in mode.inputs_of(&name, fs::read(path)?) {
+                self.one(&question)?;
+            }
         }
-        for index in self.options.first..self.options.first + self.options.count {
-            let Input { name, bytes, .. } = gen::generate(self.options.seed, index);
-            self.one(&format!("{index} ({name})"), &bytes)?;
+        for index in first..first + count {
+            let mut question = mode.input(seed, index);
+            question.name = format!("{index} ({})", question.name);
+            self.one(&question)?;
         }
         Ok(())
     }
 
-    fn one(&mut self, name: &str, bytes: &[u8]) -> io::Result<()> {
-        let expected = match expected(self.options.mode, bytes) {
+    fn one(&mut self, question: &Question) -> io::Result<()> {
+        self.counts.inputs += 1;
+        let expected = match expected(self.options.mode, question) {
             Ok(expected) => expected,
-            Err(message) => return self.report(name, bytes, &message),
+            Err(message) => return self.report(question, &message),
         };
-        let answer = self.run(bytes)?;
-        if answer != expected {
-            let message = difference(&expected, &answer);
-            self.report(name, bytes, &message)?;
-        }
+        self.ask(question, &expected)?;
         if self.options.again && expected.err.is_empty() {
-            self.again(name, bytes, &expected)?;
+            self.again(question, &expected)?;
         }
         Ok(())
+    }
+
+    /// Runs the program, and reports an answer that is not the expected one.
+    fn ask(&mut self, question: &Question, expected: &Answer) -> io::Result<()> {
+        let answer = self.run(question)?;
+        if answer == *expected {
+            return Ok(());
+        }
+        self.report(question, &difference(expected, &answer))
     }
 
     /// The normal form of a normal form, and of another encoding of the same reading.
-    fn again(&mut self, name: &str, bytes: &[u8], normal: &Answer) -> io::Result<()> {
+    fn again(&mut self, question: &Question, normal: &Answer) -> io::Result<()> {
+        let bytes = &question.recording;
         let Ok(reading) = read_recording(bytes).reading() else { return Ok(()) };
         let other =
             encode::wasteful(&reading, &mut Rng::new(self.options.seed, bytes.len() as u64));
@@ -126,33 +214,35 @@ impl Runner<'_> {
         if read_recording(&other).refusal.is_none() {
             inputs.push(("another encoding", other));
         }
-        for (what, input) in inputs {
-            let answer = self.run(&input)?;
-            if answer != *normal {
-                let message = difference(normal, &answer);
-                self.report(&format!("{name}, {what}"), &input, &message)?;
-            }
+        for (what, recording) in inputs {
+            let name = format!("{}, {what}", question.name);
+            self.ask(&Question { name, recording, words: Vec::new() }, normal)?;
         }
         Ok(())
     }
 
-    fn report(&mut self, name: &str, bytes: &[u8], message: &str) -> io::Result<()> {
-        self.differences += 1;
+    fn report(&mut self, question: &Question, message: &str) -> io::Result<()> {
+        let Question { name, recording, words } = question;
+        self.counts.differences += 1;
         fs::create_dir_all(&self.options.keep)?;
         let safe: String =
             name.chars().map(|c| if c.is_ascii_alphanumeric() { c } else { '-' }).collect();
         let path = self.options.keep.join(format!("{}-{safe}.dem", self.options.seed));
-        fs::write(&path, bytes)?;
+        fs::write(&path, recording)?;
         println!("input {name}: {message}\n  kept in {}", path.display());
+        if self.options.mode == Mode::Given {
+            println!("  words {}", quoted(words));
+        }
         Ok(())
     }
 
-    fn run(&mut self, bytes: &[u8]) -> io::Result<Answer> {
+    fn run(&mut self, question: &Question) -> io::Result<Answer> {
+        let bytes = &question.recording;
         let [program, args @ ..] = &self.options.program[..] else {
             return Err(io::Error::other("no program to run"));
         };
         let mut command = Command::new(program);
-        command.args(args).stdout(Stdio::piped()).stderr(Stdio::piped());
+        command.args(args).args(&question.words).stdout(Stdio::piped()).stderr(Stdio::piped());
         if self.options.pipe {
             let mut child = command.stdin(Stdio::piped()).spawn()?;
             let stdin = child.stdin.take().expect("a pipe was asked for");
@@ -185,6 +275,11 @@ fn feed(mut stdin: ChildStdin, mut bytes: &[u8]) {
         }
         bytes = rest;
     }
+}
+
+/// The words as they are handed to a shell.
+fn quoted(words: &[String]) -> String {
+    words.iter().map(|word| format!("'{word}'")).collect::<Vec<_>>().join(" ")
 }
 
 /// The first thing that differs, in words.

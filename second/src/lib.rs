@@ -8,6 +8,7 @@ pub mod cases;
 pub mod compare;
 pub mod fast;
 pub mod gen;
+pub mod given;
 pub mod message;
 pub mod mix;
 pub mod read;

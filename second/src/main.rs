@@ -1,7 +1,7 @@
 //! The commands of the second reader; see README.md.
 
 use second::compare::{self, Mode, Options};
-use second::{bench, cases, fast, gen, mix, read, text};
+use second::{bench, cases, fast, gen, given, mix, read, text};
 use std::io::{Read, Write};
 use std::path::{Path, PathBuf};
 use std::process::ExitCode;
@@ -9,15 +9,17 @@ use std::process::ExitCode;
 const USAGE: &str = "usage:
   second normal < RECORDING         the normal form
   second scene < RECORDING          the scene as text
+  second overlay < RECORDING        a line a block: how many entities are present
+  second given WORD.. < RECORDING   a message asked for in a scene changed by hand
   second messages < RECORDING       a line a message
   second cases < LINES              what single calls answer
   second generate SEED INDEX        the INDEX-th generated input of a seed
   second boundaries                 the names of the boundary cases, which are the first inputs
   second mix NAME SIZE_MB           a big made recording
   second bench [FILE...]            times reading and normalising
-  second compare [--mode normal|scene] [--count N] [--first I | --random]
-                 [--seed S] [--keep DIR] [--pipe] [--again] [--no-recordings]
-                 PROGRAM [ARGS..]";
+  second compare [--mode normal|scene|overlay|given] [--count N]
+                 [--first I | --random] [--seed S] [--keep DIR] [--pipe] [--again]
+                 [--no-recordings] PROGRAM [ARGS..]";
 
 type Outcome = Result<ExitCode, Box<dyn std::error::Error>>;
 
@@ -27,6 +29,8 @@ fn main() -> ExitCode {
     let result = match words[..] {
         ["normal"] => normal(),
         ["scene"] => scene(),
+        ["overlay"] => overlay(),
+        ["given", ref words @ ..] => ask_given(words),
         ["messages"] => messages(),
         ["cases"] => single_calls(),
         ["generate", seed, index] => generate(seed, index),
@@ -71,6 +75,21 @@ fn normal() -> Outcome {
 
 fn scene() -> Outcome {
     output(text::scene_text(&read::read_recording(&input()?)).as_bytes())
+}
+
+fn overlay() -> Outcome {
+    let (counts, refusal) = fast::overlay(&input()?);
+    output(text::overlay_text(&counts, refusal).as_bytes())
+}
+
+fn ask_given(words: &[&str]) -> Outcome {
+    match given::answer(&input()?, words) {
+        Ok(answer) => output(answer.as_bytes()),
+        Err(word) => {
+            eprint!("{}", given::wrong_word(&word));
+            Ok(ExitCode::FAILURE)
+        }
+    }
 }
 
 fn messages() -> Outcome {
@@ -118,41 +137,42 @@ fn time_all(files: &[&str]) -> Outcome {
 
 fn run_compare(args: &[&str]) -> Outcome {
     let options = compare_options(args)?;
-    let inputs = options.count + options.recordings.len();
     let start = std::time::Instant::now();
-    let differences = compare::compare(&options)?;
+    let compare::Counts { inputs, differences } = compare::compare(&options)?;
     let seconds = start.elapsed().as_secs_f32();
     println!("{inputs} inputs, {differences} differences, {seconds:.1} s");
     Ok(if differences == 0 { ExitCode::SUCCESS } else { ExitCode::FAILURE })
 }
 
-fn compare_options(args: &[&str]) -> Result<Options, Box<dyn std::error::Error>> {
-    let mut options = Options {
+fn no_options() -> Options {
+    Options {
         mode: Mode::Normal,
         seed: 1,
         first: 0,
-        count: gen::boundary_count() + 2000,
+        count: 0,
         keep: Path::new(env!("CARGO_MANIFEST_DIR")).join("target/differences"),
         recordings: compare::recordings_in(&compare::recordings_folder()),
         pipe: false,
         again: false,
         program: Vec::new(),
-    };
+    }
+}
+
+fn compare_options(args: &[&str]) -> Result<Options, Box<dyn std::error::Error>> {
+    let mut options = no_options();
+    let (mut count, mut random) = (None, false);
     let mut args = args.iter().copied();
     while let Some(arg) = args.next() {
         let mut value = || args.next().ok_or(format!("{arg} needs a value"));
         match arg {
             "--mode" => {
-                options.mode = match value()? {
-                    "normal" => Mode::Normal,
-                    "scene" => Mode::Scene,
-                    other => return Err(format!("no mode {other}").into()),
-                }
+                let name = value()?;
+                options.mode = Mode::of(name).ok_or(format!("no mode {name}"))?;
             }
             "--seed" => options.seed = value()?.parse()?,
             "--first" => options.first = value()?.parse()?,
-            "--random" => options.first = gen::boundary_count(),
-            "--count" => options.count = value()?.parse()?,
+            "--random" => random = true,
+            "--count" => count = Some(value()?.parse()?),
             "--keep" => options.keep = value()?.into(),
             "--pipe" => options.pipe = true,
             "--again" => options.again = true,
@@ -163,8 +183,13 @@ fn compare_options(args: &[&str]) -> Result<Options, Box<dyn std::error::Error>>
             }
         }
     }
-    if options.program.is_empty() {
+    let mode = options.mode;
+    if options.program.is_empty() || options.again && mode != Mode::Normal {
         return Err(USAGE.into());
     }
+    if random {
+        options.first = mode.boundary_count();
+    }
+    options.count = count.unwrap_or(mode.boundary_count() + mode.random_count());
     Ok(options)
 }

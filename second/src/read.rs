@@ -11,6 +11,9 @@ pub const STRING_BYTES: usize = 2047;
 /// Names in each of serverinfo's lists.
 pub const NAMES: usize = 255;
 
+/// What a scene outside its ranges gets, whatever is asked of it and wherever.
+pub const NO_SCENE: Refusal = Refusal { number: 14, place: 0 };
+
 /// A message read at a place.
 #[derive(Clone, Debug, PartialEq, Eq)]
 pub struct Step {
@@ -71,6 +74,16 @@ impl Attempt {
             (step, scene.clone())
         })
     }
+
+    /// The place of each block read, and the number of present marks behind it.
+    pub fn present_counts(&self) -> Vec<(usize, u16)> {
+        let mut scene = Scene::start();
+        let behind = |block: &Block| {
+            block.messages.iter().for_each(|step| scene.apply(&step.filled));
+            (block.place, scene.present_count)
+        };
+        self.blocks.iter().map(behind).collect()
+    }
 }
 
 /// Reads a whole recording from the scene at the start.
@@ -115,6 +128,9 @@ pub fn read_block(
     at: usize,
 ) -> Result<Option<(Block, Scene)>, Refusal> {
     let refuse = |number| Err(Refusal { number, place: at });
+    if !scene.in_ranges() {
+        return Err(NO_SCENE);
+    }
     if at == bytes.len() {
         return Ok(None);
     }
@@ -164,6 +180,9 @@ fn read_messages(
 /// Reads the message at a place of bytes that end where the block ends; `None`
 /// exactly at the end. Places count from the first byte lent.
 pub fn read_message(scene: &Scene, bytes: &[u8], at: usize) -> Result<Option<Step>, Refusal> {
+    if !scene.in_ranges() {
+        return Err(NO_SCENE);
+    }
     if at == bytes.len() {
         return Ok(None);
     }

@@ -1,6 +1,6 @@
 //! The scene: what all messages before a place lead to.
 
-use crate::message::{FilledIn, Message};
+use crate::message::{FilledIn, Message, Update};
 
 pub const ENTITIES: usize = 600;
 pub const MAX_ENTITY: u16 = ENTITIES as u16 - 1;
@@ -68,6 +68,8 @@ pub struct Scene {
     pub baselines: [Baseline; ENTITIES],
     pub records: [Record; ENTITIES],
     pub present: [bool; ENTITIES],
+    /// How many of `present` are set, kept as they change.
+    pub present_count: u16,
     pub stats: [i32; STATS],
     pub client: ClientData,
     pub view: u16,
@@ -86,6 +88,7 @@ impl Default for Scene {
             baselines: [Baseline::default(); ENTITIES],
             records: [Record::default(); ENTITIES],
             present: [false; ENTITIES],
+            present_count: 0,
             stats: [0; STATS],
             client: ClientData::default(),
             view: 0,
@@ -116,6 +119,18 @@ impl Scene {
             && self.statics <= STATICS
             && self.limit <= PLAYERS as u8
             && self.time.is_none_or(time_bits_allowed)
+            && self.present_count == self.set_marks()
+    }
+
+    /// The present marks that are set, counted one by one.
+    fn set_marks(&self) -> u16 {
+        let mut count = 0;
+        for mark in self.present {
+            if mark {
+                count += 1;
+            }
+        }
+        count
     }
 
     /// The rule of message 7 in this scene: compared as bits, never as floats.
@@ -132,6 +147,7 @@ impl Scene {
             Message::Time { bits } => {
                 self.time = Some(*bits);
                 self.present = [false; ENTITIES];
+                self.present_count = 0;
             }
             Message::ServerInfo(info) => {
                 *self = Scene::start();
@@ -147,12 +163,18 @@ impl Scene {
             Message::Pause { pause } => self.pause = *pause,
             Message::Killed => self.count(STAT_KILLS),
             Message::Secret => self.count(STAT_SECRETS),
-            Message::Update(update) => {
-                self.records[update.entity as usize] = update.record;
-                self.present[update.entity as usize] = true;
-            }
+            Message::Update(update) => self.update(update),
             _ => {}
         }
+    }
+
+    fn update(&mut self, update: &Update) {
+        let entity = update.entity as usize;
+        if !self.present[entity] {
+            self.present_count += 1;
+        }
+        self.present[entity] = true;
+        self.records[entity] = update.record;
     }
 
     fn count(&mut self, stat: usize) {

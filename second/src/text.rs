@@ -20,7 +20,12 @@ pub fn scene_text(attempt: &Attempt) -> String {
 
 /// The text of an accepted recording.
 pub fn accepted_text(track: i32, blocks: usize, messages: usize, scene: &Scene) -> String {
-    let mut out = format!("accepted\ntrack {track}\nblocks {blocks}\nmessages {messages}\n");
+    let head = format!("accepted\ntrack {track}\nblocks {blocks}\nmessages {messages}\n");
+    head + &scene_lines(scene)
+}
+
+/// The text of a scene alone: from the line `ended` on.
+pub fn scene_lines(scene: &Scene) -> String {
     let time = scene.time.map_or("none".into(), |bits| format!("{bits:08x}"));
     let stats: Vec<String> = scene.stats.iter().map(i32::to_string).collect();
     let lines = [
@@ -30,11 +35,11 @@ pub fn accepted_text(track: i32, blocks: usize, messages: usize, scene: &Scene) 
         format!("view {}", scene.view),
         format!("pause {}", scene.pause),
         format!("statics {}", scene.statics),
+        format!("present {}", scene.present_count),
         format!("stats {}", stats.join(" ")),
         format!("clientdata {}", client_fields(&scene.client)),
     ];
-    out.push_str(&lines.join("\n"));
-    out.push('\n');
+    let mut out = lines.join("\n") + "\n";
     for (number, line) in scene.players.iter().enumerate() {
         let _ = writeln!(out, "player {number} frags={} colours={}", line.frags, line.colours);
     }
@@ -250,6 +255,14 @@ impl Fields for StaticSound {
         let StaticSound { sound, volume, attenuation, .. } = self;
         format!("{origin} sound={sound} volume={volume} attenuation={attenuation}")
     }
+}
+
+/// A line a block, its place and the number of present marks behind it; then how
+/// the recording ends.
+pub fn overlay_text(counts: &[(usize, u16)], refusal: Option<Refusal>) -> String {
+    let line = |(place, count): &(usize, u16)| format!("block {place} present {count}\n");
+    let end = refusal.map_or("accepted".into(), |refusal| refusal.to_string());
+    counts.iter().map(line).collect::<String>() + &end + "\n"
 }
 
 /// One line a message: place, number, fields as sent, ` | `, fields filled in.

@@ -1,7 +1,7 @@
 //! Writing: a message back from its fields as sent, and the normal form.
 
 use crate::message::*;
-use crate::read::{read_message, read_recording, Attempt};
+use crate::read::{read_message, read_recording, Attempt, NO_SCENE};
 use crate::scene::*;
 
 /// A message ready to be encoded: masks as sent, strings as bytes.
@@ -11,7 +11,7 @@ pub type Encodable = Message<Vec<u8>, SentSound, SentClientData, SentUpdate>;
 pub fn write_message(scene: &Scene, sent: &AsSent, text: &[u8]) -> Result<Vec<u8>, Refusal> {
     let refuse = |number| Refusal { number, place: 0 };
     if !scene.in_ranges() {
-        return Err(refuse(14));
+        return Err(NO_SCENE);
     }
     if scene.ended {
         return Err(refuse(11));

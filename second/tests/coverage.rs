@@ -1,11 +1,13 @@
 //! The generated inputs have teeth: together they reach every message, every
 //! mask bit, every refusal of a whole reading and every boundary of document 01.
 
-use second::gen;
+use second::gen::words::{self, Question};
 use second::message::*;
-use second::read::{read_recording, Attempt, Step};
+use second::read::{read_block, read_recording, Attempt, Step, BLOCK_HEAD};
 use second::scene::{Baseline, Scene};
-use std::collections::BTreeSet;
+use second::{gen, given};
+use std::cmp::Ordering;
+use std::collections::{BTreeMap, BTreeSet};
 
 type Facts = BTreeSet<String>;
 
@@ -122,6 +124,48 @@ fn note_tables(facts: &mut Facts, step: &Step, before: &Scene, cleared: &mut BTr
     }
 }
 
+/// What an accepted message does to the number of present marks. `widths` are those
+/// that each entity was updated in since it was marked.
+fn note_count(facts: &mut Facts, step: &Step, [before, after]: [&Scene; 2], widths: &mut Widths) {
+    let (count, number) = (before.present_count, step.number.min(128));
+    note(facts, format!("present {}", after.present_count));
+    match &step.sent {
+        Message::Update(update) => {
+            let width = 1 + (update.mask >> 14 & 1) as usize;
+            let marked = before.present[usize::from(update.entity)];
+            let others = widths.entry(update.entity).or_default();
+            note(facts, format!("width {width} of an entity marked in {others:?}"));
+            note(facts, format!("update of an entity, marked: {marked}"));
+            others.insert(width);
+        }
+        Message::Time { .. } | Message::ServerInfo(_) => {
+            note(facts, format!("message {number} clears {count} marks"));
+            note(facts, format!("message {number} clears marks: {}", count > 0));
+            widths.clear();
+        }
+        _ => note(facts, format!("message {number} leaves marks: {}", count > 0)),
+    }
+}
+
+type Widths = BTreeMap<u16, BTreeSet<usize>>;
+
+/// What a block that is refused in its messages had done to the number before.
+fn note_undone(facts: &mut Facts, refusal: Refusal, bytes: &[u8], attempt: &Attempt) {
+    let track_line = bytes.iter().position(|byte| *byte == b'\n').map_or(0, |at| at + 1);
+    let block = attempt.blocks.last().map_or(track_line, |block| block.next);
+    if refusal.number < 5 || refusal.place < block + BLOCK_HEAD {
+        return;
+    }
+    let good = with_size(bytes, block, refusal.place);
+    let Ok(Some((_, scene))) = read_block(&attempt.scene, &good, block) else { return };
+    let undone = match scene.present_count.cmp(&attempt.scene.present_count) {
+        Ordering::Equal => "none",
+        Ordering::Greater => "more",
+        Ordering::Less => "fewer",
+    };
+    note(facts, format!("refused {} behind {undone} marks in its block", refusal.number));
+}
+
 /// Whether no two are alike.
 fn all_differ<T: PartialEq>(of: &[T]) -> bool {
     of.iter().enumerate().all(|(i, one)| !of[..i].contains(one))
@@ -213,7 +257,7 @@ fn is_2047_letters(message: &[u8]) -> bool {
 fn note_player(facts: &mut Facts, player: u8, place: usize, bytes: &[u8]) {
     let attempt = read_recording(bytes);
     let block = attempt.blocks.last().map_or(2, |block| block.next);
-    let scene = second::read::read_block(&attempt.scene, &with_size(bytes, block, place), block);
+    let scene = read_block(&attempt.scene, &with_size(bytes, block, place), block);
     if let Ok(Some((_, scene))) = scene {
         note(facts, format!("player {player} of {} refused", scene.limit));
     }
@@ -250,15 +294,20 @@ fn note_input(facts: &mut Facts, bytes: &[u8]) {
         note(facts, format!("size {}", block.next - block.place - 16));
     }
     let mut scene = Scene::start();
-    let (mut infos, mut cleared) = (0, BTreeSet::new());
+    let (mut infos, mut cleared, mut widths) = (0, BTreeSet::new(), Widths::new());
     for step in attempt.blocks.iter().flat_map(|block| &block.messages) {
         note_message(facts, step, &scene);
         note_tables(facts, step, &scene, &mut cleared);
+        let before = scene.clone();
         scene.apply(&step.filled);
+        note_count(facts, step, [&before, &scene], &mut widths);
         infos += usize::from(step.number == 11);
     }
     match attempt.refusal {
-        Some(refusal) => note_refusal(facts, refusal, bytes, &attempt),
+        Some(refusal) => {
+            note_refusal(facts, refusal, bytes, &attempt);
+            note_undone(facts, refusal, bytes, &attempt);
+        }
         None => {
             note(facts, format!("accepted, ended {}", scene.ended));
             note(facts, format!("accepted, {} serverinfos", infos.min(3)));
@@ -308,6 +357,7 @@ fn required() -> Vec<String> {
         need(format!("player {limit} of {limit} refused"));
     }
     need("player 0 of 0 refused".into());
+    required_counts().into_iter().for_each(&mut need);
     [1, 2, 16].iter().for_each(|limit| need(format!("limit {limit} after 0")));
     all.extend(REQUIRED.map(String::from));
     all
@@ -346,6 +396,35 @@ fn required_entities() -> Vec<String> {
         need(format!("cleared baseline of entity {entity} fills an update"));
         need(format!("mark of entity {entity} taken away by time"));
     }
+    all
+}
+
+/// What must be among the facts about the number of present marks.
+fn required_counts() -> Vec<String> {
+    let mut all = Vec::new();
+    let mut need = |fact: String| all.push(fact);
+    for count in [0, 1, 2, 255, 256, 257, 511, 512, 513, 599, 600] {
+        need(format!("present {count}"));
+    }
+    for message in [7, 11] {
+        for count in [0, 1, 2, 600] {
+            need(format!("message {message} clears {count} marks"));
+        }
+    }
+    let clearing = [7, 11, 21];
+    for message in (1..=34).filter(|number| !clearing.contains(number)) {
+        need(format!("message {message} leaves marks: true"));
+    }
+    for (width, before) in [(1, "{2}"), (2, "{1}"), (1, "{1}"), (2, "{2}")] {
+        need(format!("width {width} of an entity marked in {before}"));
+    }
+    [true, false].iter().for_each(|marked| need(format!("update of an entity, marked: {marked}")));
+    for number in [5, 6, 8, 9, 10, 11] {
+        need(format!("refused {number} behind more marks in its block"));
+    }
+    ["none", "fewer"]
+        .iter()
+        .for_each(|what| need(format!("refused 6 behind {what} marks in its block")));
     all
 }
 
@@ -428,4 +507,125 @@ fn random_inputs_reach_every_message_refusal_mask_bit_and_entity() {
     let required = required().into_iter().filter(|f| wanted(f) && !f.contains("refused"));
     let missing: Vec<String> = required.filter(|fact| !facts.contains(fact)).collect();
     assert!(missing.is_empty(), "never reached: {missing:#?}");
+}
+
+/// What the answer to a question about a changed scene shows.
+fn note_question(facts: &mut Facts, question: &Question) {
+    let Question { recording, words, .. } = question;
+    let answer = given::answer(recording, words).unwrap_or("wrong word".into());
+    let head = answer.lines().next().unwrap_or_default();
+    let kind = head.split(" at ").next().unwrap_or_default();
+    note(facts, if kind.starts_with("next") { "next" } else { kind });
+    let value = |name: &str| words.iter().rev().find_map(|word| word.strip_prefix(name));
+    let length = value("ask=").map_or(0, |digits| digits.len() / 2);
+    let at: usize = value("at=").and_then(|digits| digits.parse().ok()).unwrap_or(0);
+    let place = ["before", "at", "past"][usize::from(at >= length) + usize::from(at > length)];
+    note(facts, format!("{kind}, {place} the end"));
+    for word in words {
+        let name = word.split('=').next().unwrap_or_default();
+        note(facts, format!("{kind} with {name}"));
+        note(facts, format!("{kind} with {word}"));
+    }
+    if let (true, Some(message)) = (kind.starts_with("next"), value("ask=")) {
+        let before = read_recording(recording).scene.present_count.to_string();
+        let before = value("present=").unwrap_or(&before);
+        let line = answer.lines().find(|line| line.starts_with("present ")).unwrap_or_default();
+        let number = &message[2 * at..2 * at + 2];
+        let behind = line.strip_prefix("present ").unwrap_or_default();
+        note(facts, format!("message {number} {} marks", count_change(before, behind)));
+    }
+}
+
+fn count_change(before: &str, after: &str) -> &'static str {
+    let number = |text: &str| text.parse::<u16>().expect("a number");
+    match (number(before), number(after)) {
+        (before, after) if before == after => "leaves the",
+        (_, 0) => "clears the",
+        _ => "changes the",
+    }
+}
+
+/// The written-out words reach each range of a scene, from inside and from outside, at
+/// each place; random ones reach every kind of answer.
+#[test]
+fn words_reach_everything() {
+    let (mut written, mut random) = (Facts::new(), Facts::new());
+    let count = words::boundary_count();
+    (0..count).for_each(|index| note_question(&mut written, &words::question(1, index)));
+    (count..count + 1500).for_each(|index| note_question(&mut random, &words::question(1, index)));
+    let missing = |facts: &Facts, required: &[&str]| -> Vec<String> {
+        let required = required.iter().map(|fact| fact.to_string());
+        required.filter(|fact| !facts.contains(fact)).collect()
+    };
+    assert_eq!(missing(&written, &OF_WORDS), [""; 0]);
+    assert_eq!(missing(&written, &OF_WRITTEN_WORDS), [""; 0]);
+    assert_eq!(missing(&random, &OF_WORDS), [""; 0]);
+}
+
+/// What written-out words and random ones must show, each by themselves.
+const OF_WORDS: [&str; 27] = [
+    "end",
+    "next",
+    "refused 5",
+    "refused 6",
+    "refused 7",
+    "refused 8",
+    "refused 9",
+    "refused 10",
+    "refused 11",
+    "refused 14",
+    "refused 14, before the end",
+    "refused 14, at the end",
+    "refused 14, past the end",
+    "refused 5, past the end",
+    "end, at the end",
+    "refused 14 with statics",
+    "refused 14 with limit",
+    "refused 14 with view",
+    "refused 14 with time",
+    "refused 14 with present",
+    "refused 14 with mark",
+    "refused 14 with ended=1",
+    "message 07 clears the marks",
+    "message 07 leaves the marks",
+    "message 01 leaves the marks",
+    "message 81 leaves the marks",
+    "message 81 changes the marks",
+];
+
+const OF_WRITTEN_WORDS: [&str; 22] = [
+    "wrong word",
+    "message 0b clears the marks",
+    "refused 9 with statics=128",
+    "refused 14 with statics=129",
+    "refused 14 with statics=255",
+    "refused 9 with limit=16",
+    "refused 14 with limit=17",
+    "refused 14 with view=600",
+    "refused 14 with view=65535",
+    "refused 10 with time=7f7fffff",
+    "refused 14 with time=7f800000",
+    "refused 14 with time=80000000",
+    "refused 14 with time=ffffffff",
+    "refused 14 with present=0",
+    "refused 14 with present=1",
+    "refused 14 with present=2",
+    "refused 14 with present=3",
+    "refused 14 with present=599",
+    "refused 14 with present=601",
+    "refused 14 with present=65535",
+    "refused 14 with mark=0:1",
+    "refused 5 with at=4294967295",
+];
+
+/// Most random words leave the scene in its ranges.
+#[test]
+fn random_words_mostly_leave_a_scene() {
+    let (first, count) = (words::boundary_count(), 1500);
+    let refused = (first..first + count).filter(|index| {
+        let Question { recording, words, .. } = words::question(2, *index);
+        given::answer(&recording, &words) == Ok("refused 14 at 0\n".into())
+    });
+    let refused = refused.count();
+    assert!((count / 6..count / 3).contains(&refused), "{refused} of {count} are no scene");
 }

@@ -23,6 +23,9 @@ fn hold_fast_against_plain(name: &str, bytes: &[u8]) -> Attempt {
         }
         (fast, plain) => panic!("{name}: fast {:?}, plain {plain:?}", fast.map(|f| f.0)),
     }
+    let counts = (plain.present_counts(), plain.refusal);
+    assert!(fast::overlay(bytes) == counts, "{name}: present counts differ");
+    assert!(fast::overlay_without_shuffles(bytes) == counts, "{name}: present counts differ");
     for normaliser in [fast::normal, fast::normal_without_shuffles] {
         let mut out = Vec::new();
         let answer = normaliser(bytes, &mut out);

@@ -170,7 +170,7 @@ fn blocks_before_a_refusal_stay_written() {
 fn whole_recording_scene_text() {
     let expected = "accepted\n\
         track -1\nblocks 2\nmessages 4\nended 1\ntime 3f800000\nlimit 0\nview 0\npause 0\n\
-        statics 0\n\
+        statics 0\npresent 1\n\
         stats 0 0 0 0 0 0 0 0 0 0 0 0 0 0 0 0 0 0 0 0 0 0 0 0 0 0 0 0 0 0 0 0\n\
         clientdata view_height=0 pitch=0 punch0=0 velocity0=0 punch1=0 velocity1=0 punch2=0 \
         velocity2=0 items=0 ground=0 water=0 weapon_frame=0 armour=0 weapon_model=0 health=0 \

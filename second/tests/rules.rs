@@ -254,7 +254,8 @@ fn tables_of_600_entities() {
     assert_eq!(scene.baselines, std::array::from_fn(|entity| baseline(entity as u16)));
     assert_eq!(scene.records, scene.baselines.map(Record::from));
     assert!(scene.present.iter().all(|mark| *mark));
-    let mut timed = Scene { time: Some(0x3F80_0000), ..scene.clone() };
+    assert_eq!(scene.present_count, 600);
+    let mut timed = Scene { time: Some(0x3F80_0000), present_count: 0, ..scene.clone() };
     timed.present.fill(false);
     assert_eq!(read_from(&scene, &hex("07 00 00 80 3F")).after, timed);
     let cleared = read_from(&scene, &server_info(1)).after;
@@ -376,7 +377,7 @@ fn scene_text_with_every_value() {
     }
     let text = second::text::scene_text(&read_recording(&recording(&[&body, &[]])));
     let expected = "accepted\ntrack 0\nblocks 2\nmessages 8\nended 0\ntime none\nlimit 3\n\
-        view 599\npause 9\nstatics 1\n\
+        view 599\npause 9\nstatics 1\npresent 0\n\
         stats -100 0 23 24 22 21 25 26 27 28 29 0 0 0 0 0 0 0 0 0 0 0 0 0 0 0 0 0 0 0 0 -2\n\
         clientdata view_height=1 pitch=2 punch0=3 velocity0=4 punch1=5 velocity1=6 punch2=7 \
         velocity2=8 items=1144201745 ground=1 water=1 weapon_frame=21 armour=22 \

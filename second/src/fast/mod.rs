@@ -17,7 +17,7 @@ mod update;
 
 use crate::message::Refusal;
 use crate::scene::MAX_ENTITY;
-use output::{Discard, Normal, Output};
+use output::{Discard, Normal, Output, Overlay};
 use scene::FastScene;
 
 const BLOCK_HEAD: usize = 16;
@@ -61,6 +61,15 @@ pub fn normal(input: &[u8], out: &mut Vec<u8>) -> Result<Summary, Refusal> {
     let mut output = Normal::new(input, start, out);
     let (blocks, messages) = run(input, start, &mut scene, &mut output)?;
     Ok(Summary { track, blocks, messages })
+}
+
+/// The place of each whole block and the number of present marks behind it, and
+/// the refusal that is met behind them.
+pub fn overlay(input: &[u8]) -> (Vec<(usize, u16)>, Option<Refusal>) {
+    let mut output = Overlay(Vec::new());
+    let answer = track_line(input)
+        .and_then(|(_, start)| run(input, start, &mut FastScene::boxed(), &mut output));
+    (output.0, answer.err())
 }
 
 fn track_line(input: &[u8]) -> Result<(i32, usize), Refusal> {
@@ -126,6 +135,17 @@ pub fn summarise_without_shuffles(input: &[u8]) -> Result<Summary, Refusal> {
     Ok(Summary { track, blocks, messages })
 }
 
+/// The code without shuffles, for the tests to hold it against the other.
+#[doc(hidden)]
+pub fn overlay_without_shuffles(input: &[u8]) -> (Vec<(usize, u16)>, Option<Refusal>) {
+    let mut output = Overlay(Vec::new());
+    let answer = track_line(input).and_then(|(_, start)| {
+        let scene = &mut FastScene::boxed();
+        Pass { input, scene, output: &mut output }.run::<false>(start)
+    });
+    (output.0, answer.err())
+}
+
 struct Pass<'a, O> {
     input: &'a [u8],
     scene: &'a mut FastScene,
@@ -143,7 +163,7 @@ impl<O: Output> Pass<'_, O> {
         while at < self.input.len() {
             match self.block::<SHUFFLE>(at) {
                 Ok((end, count)) => {
-                    self.output.end_block(at, end);
+                    self.output.end_block(at, end, self.scene.present as u16);
                     at = end;
                     blocks += 1;
                     messages += count;

@@ -1,4 +1,4 @@
-//! What the pass hands on: nothing, or the normal form.
+//! What the pass hands on: nothing, the number of present marks, or the normal form.
 
 /// Room beyond the normal form, which is never longer than the input: enough for
 /// what is asked for ahead, so that the output is never moved.
@@ -18,7 +18,8 @@ pub trait Output {
     /// The normal form of the message `at..next` of the block at `block` is the
     /// first `length` bytes of `normal`.
     fn replace(&mut self, block: usize, at: usize, next: usize, normal: &[u8; ROOM], length: usize);
-    fn end_block(&mut self, block: usize, end: usize);
+    /// The block at `block` ends at `end`, with so many present marks.
+    fn end_block(&mut self, block: usize, end: usize, present: u16);
     fn refuse_block(&mut self, block: usize);
     fn finish(&mut self);
 }
@@ -29,7 +30,20 @@ pub struct Discard;
 impl Output for Discard {
     const WRITES: bool = false;
     fn replace(&mut self, _: usize, _: usize, _: usize, _: &[u8; ROOM], _: usize) {}
-    fn end_block(&mut self, _: usize, _: usize) {}
+    fn end_block(&mut self, _: usize, _: usize, _: u16) {}
+    fn refuse_block(&mut self, _: usize) {}
+    fn finish(&mut self) {}
+}
+
+/// The place of each block, and the number of present marks behind it.
+pub struct Overlay(pub Vec<(usize, u16)>);
+
+impl Output for Overlay {
+    const WRITES: bool = false;
+    fn replace(&mut self, _: usize, _: usize, _: usize, _: &[u8; ROOM], _: usize) {}
+    fn end_block(&mut self, block: usize, _: usize, present: u16) {
+        self.0.push((block, present));
+    }
     fn refuse_block(&mut self, _: usize) {}
     fn finish(&mut self) {}
 }
@@ -108,7 +122,7 @@ impl Output for Normal<'_> {
     }
 
     #[inline(always)]
-    fn end_block(&mut self, block: usize, end: usize) {
+    fn end_block(&mut self, block: usize, end: usize, _: u16) {
         if let Some(head) = self.head.take() {
             let size = (end - block - super::BLOCK_HEAD - self.saved) as u32;
             self.out[head..head + 4].copy_from_slice(&size.to_le_bytes());

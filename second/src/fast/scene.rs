@@ -6,10 +6,13 @@ use std::arch::x86_64::*;
 
 /// An entity's fields in the order of the wire: model, frame, colormap, skin,
 /// effects, then x, angle 0, y, angle 1, z, angle 2. Byte 14 is bit 5 of a
-/// record; byte 15 of a record is the epoch it was set in.
+/// record; byte `EPOCH` of a record is the epoch it was set in.
 #[derive(Clone, Copy, Default)]
 #[repr(C, align(16))]
 pub struct Wire(pub [u8; 16]);
+
+/// Where a record has the epoch it was set in.
+pub const EPOCH: usize = 15;
 
 /// Where the wire has one axis after the other.
 const AXES: [usize; 3] = [5, 8, 11];
@@ -63,6 +66,9 @@ pub struct FastScene {
     /// A record is present if it was set in this epoch; never 0, so that a
     /// record never set is not present.
     pub epoch: u8,
+    /// How many records were set in this epoch. No record is of a later one, so an
+    /// update adds to it where the record before was of an earlier one.
+    pub present: u32,
     pub limit: u8,
     pub statics: u8,
     pub pause: u8,
@@ -82,6 +88,7 @@ impl FastScene {
             client: Client::default(),
             players: [plain::Player::default(); 16],
             epoch: 1,
+            present: 0,
             limit: 0,
             statics: 0,
             pause: 0,
@@ -101,6 +108,7 @@ impl FastScene {
     pub fn set_time(&mut self, bits: u32) {
         self.time = bits;
         self.has_time = true;
+        self.present = 0;
         self.epoch = self.epoch.wrapping_add(1);
         if self.epoch == 0 {
             self.restart_epochs();
@@ -109,7 +117,7 @@ impl FastScene {
 
     #[cold]
     fn restart_epochs(&mut self) {
-        self.records.iter_mut().for_each(|record| record.0[15] = 0);
+        self.records.iter_mut().for_each(|record| record.0[EPOCH] = 0);
         self.epoch = 1;
     }
 
@@ -118,7 +126,8 @@ impl FastScene {
         plain::Scene {
             baselines: self.baselines.map(|wire| baseline(&wire)),
             records: self.records.map(|wire| record(&wire)),
-            present: self.records.map(|wire| wire.0[15] == self.epoch),
+            present: self.records.map(|wire| wire.0[EPOCH] == self.epoch),
+            present_count: self.present as u16,
             stats: self.stats,
             client: self.client.to_plain(),
             view: self.view,

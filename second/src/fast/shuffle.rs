@@ -1,7 +1,7 @@
 //! Updates taken apart, and put together, by shuffles of their bytes.
 
 use super::output::{Output, ROOM};
-use super::scene::Wire;
+use super::scene::{Wire, EPOCH};
 use super::update::{groups, write_head, Field, Run, FIRST, SECOND};
 use super::{Pass, MAX_ENTITY};
 use std::arch::x86_64::*;
@@ -107,9 +107,10 @@ impl Shape {
 
     /// The entity, in the byte or the two bytes before the fields.
     #[inline(always)]
-    fn entity(self, window: &[u8; WINDOW]) -> u16 {
+    fn entity(self, window: &[u8; WINDOW]) -> usize {
         let fields = self.fields();
-        u16::from_le_bytes([window[fields - 2], window[fields - 1]]) >> (self.0 >> 8 & 8)
+        let word = u16::from_le_bytes([window[fields - 2], window[fields - 1]]);
+        usize::from(word) >> (self.0 >> 8 & 8)
     }
 
     #[inline(always)]
@@ -124,7 +125,7 @@ impl Shape {
 
     /// Not 0 if the high byte or the width of the entity is needless.
     #[inline(always)]
-    fn needless_head(self, entity: u16) -> u32 {
+    fn needless_head(self, entity: usize) -> u32 {
         (self.0 >> 23 & 1 ^ u32::from(entity > 255)) | self.0 & 1 << 24
     }
 
@@ -216,8 +217,9 @@ impl<O: Output> Pass<'_, O> {
     pub(super) fn updates_by_shuffle(&mut self, block: usize, at: usize, end: usize) -> Run {
         let input = self.input;
         let stop = end.min((input.len() + 1).saturating_sub(WINDOW));
-        let epoch = i32::from(self.scene.epoch) << 8;
+        let epoch = self.scene.epoch;
         let mut run = Run { place: at, count: 0, bad: false };
+        let mut newly_present = 0;
         while run.place < stop {
             let at = run.place;
             // SAFETY: `at` is below `stop`, so the window is inside the input.
@@ -230,23 +232,26 @@ impl<O: Output> Pass<'_, O> {
             let entity = shape.entity(window);
             // A byte past the block's end may have been taken for a mask; then
             // `next` is past the end too.
-            if shape.reserved() || entity > MAX_ENTITY || next > end {
+            if shape.reserved() || entity > MAX_ENTITY as usize || next > end {
                 run.bad = true;
                 break;
             }
-            let base = self.scene.baselines[entity as usize].load();
+            let base = self.scene.baselines[entity].load();
             let record = fill(window, shape, base);
-            let last = i32::from(window[0] >> 5 & 1) | epoch;
-            self.scene.records[entity as usize].store(_mm_insert_epi16::<7>(record, last));
+            let last = i32::from(window[0] >> 5 & 1) | i32::from(epoch) << 8;
+            let stored = &mut self.scene.records[entity];
+            newly_present += u32::from(stored.0[EPOCH] < epoch);
+            stored.store(_mm_insert_epi16::<7>(record, last));
             if O::WRITES {
                 let needless = needless(shape, record, base);
                 if needless | shape.needless_head(entity) != 0 {
-                    self.rewrite_by_shuffle(block, at, next, entity, needless);
+                    self.rewrite_by_shuffle(block, at, next, entity as u16, needless);
                 }
             }
             run.place = next;
             run.count += 1;
         }
+        self.scene.present += newly_present;
         run
     }
 

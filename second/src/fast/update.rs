@@ -5,7 +5,7 @@
 //! not differ from the baseline.
 
 use super::output::{Output, ROOM};
-use super::scene::Wire;
+use super::scene::{Wire, EPOCH};
 use super::{good, Bad, Pass, MAX_ENTITY};
 
 /// The mask as two indices: bits 6 and 10 to 13, and the axes' bits.
@@ -83,8 +83,9 @@ impl<O: Output> Pass<'_, O> {
         }
         let next = end - rest.len();
         record.0[14] = low >> 5 & 1;
-        record.0[15] = self.scene.epoch;
-        self.scene.records[entity as usize] = record;
+        record.0[EPOCH] = self.scene.epoch;
+        let before = std::mem::replace(&mut self.scene.records[entity as usize], record);
+        self.scene.present += u32::from(before.0[EPOCH] < self.scene.epoch);
         if O::WRITES {
             self.rewrite(block, at, next, entity);
         }

@@ -11,7 +11,7 @@ use crate::write::write_block;
 /// Where the messages of the first block begin in `one`.
 const BODY: usize = 18;
 
-struct Cases(Vec<Input>);
+pub(super) struct Cases(Vec<Input>);
 
 pub fn cases() -> Vec<Input> {
     let mut cases = Cases(Vec::new());
@@ -36,12 +36,25 @@ pub fn cases() -> Vec<Input> {
     cases.disconnects();
     cases.marked();
     cases.tour_cuts();
+    cases.present();
     cases.0
 }
 
 impl Cases {
     fn add(&mut self, name: impl Into<String>, bytes: Vec<u8>, expect: Expect) {
-        self.0.push(Input { name: name.into(), bytes, expect });
+        self.0.push(Input { name: name.into(), bytes, expect, present: None });
+    }
+
+    /// A case that says the number of present marks behind each whole block.
+    pub(super) fn add_counted(
+        &mut self,
+        name: &str,
+        bytes: Vec<u8>,
+        expect: Expect,
+        counts: Vec<u16>,
+    ) {
+        self.add(name, bytes, expect);
+        self.0.last_mut().expect("just added").present = Some(counts);
     }
 
     fn accept(&mut self, name: impl Into<String>, bytes: Vec<u8>) {
@@ -69,7 +82,7 @@ fn one(body: &[u8]) -> Vec<u8> {
     blocks(&[body])
 }
 
-fn blocks(bodies: &[&[u8]]) -> Vec<u8> {
+pub(super) fn blocks(bodies: &[&[u8]]) -> Vec<u8> {
     let mut out = b"3\n".to_vec();
     bodies.iter().for_each(|body| write_block(&mut out, [0; 3], body));
     out
@@ -79,7 +92,7 @@ fn nops(count: usize) -> Vec<u8> {
     vec![1; count]
 }
 
-fn server_info(limit: u8) -> Vec<u8> {
+pub(super) fn server_info(limit: u8) -> Vec<u8> {
     vec![11, 15, 0, 0, 0, limit, 1, b'm', 0, b'a', 0, 0, b'b', 0, 0]
 }
 
@@ -96,7 +109,7 @@ fn zeros(start: &[u8], count: usize) -> Vec<u8> {
     [start, &vec![0; count]].concat()
 }
 
-fn time(bits: u32) -> Vec<u8> {
+pub(super) fn time(bits: u32) -> Vec<u8> {
     [&[7], &bits.to_le_bytes()[..]].concat()
 }
 
@@ -110,7 +123,7 @@ fn own_baselines(entities: &[u16]) -> Vec<u8> {
 }
 
 /// An update in two bytes of entity that sends its baseline's x, and the same for y.
-fn own_update(entity: u16) -> Vec<u8> {
+pub(super) fn own_update(entity: u16) -> Vec<u8> {
     let [low, high] = entity.to_le_bytes();
     vec![0x87, 0x40, low, high, low, high, low, high]
 }

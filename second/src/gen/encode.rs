@@ -1,6 +1,7 @@
 //! One reading, written in the normal form or with things sent needlessly.
 
 use super::rng::Rng;
+use crate::message::FilledIn;
 use crate::read::Reading;
 use crate::scene::Scene;
 use crate::write::*;
@@ -16,19 +17,27 @@ pub fn normal(reading: &Reading) -> Vec<u8> {
 pub fn wasteful(reading: &Reading, rng: &mut Rng) -> Vec<u8> {
     let track = wasteful_track(reading.track, rng).into_bytes();
     let percent = rng.pick(&[10, 50, 90]);
-    write_blocks(track, reading, |scene, message| {
-        let extra = extra(rng, percent);
-        let keep = if rng.chance(percent) { !(1 << 9) } else { !0 };
-        encode(&with_masks(
-            message,
-            |sound| least_sound_mask(sound) | extra as u8 & 0b11,
-            |client| (least_client_mask(client) | extra & 0x70FF) & keep,
-            |update| {
-                let mask = least_update_mask(scene, update) | extra & 0x7F5F;
-                mask | u16::from(mask & 0xFF00 != 0)
-            },
-        ))
-    })
+    write_blocks(track, reading, |scene, message| wasteful_message(scene, message, rng, percent))
+}
+
+/// A message with so many of a hundred things sent that need not be.
+pub fn wasteful_message(
+    scene: &Scene,
+    message: &FilledIn,
+    rng: &mut Rng,
+    percent: usize,
+) -> Vec<u8> {
+    let extra = extra(rng, percent);
+    let keep = if rng.chance(percent) { !(1 << 9) } else { !0 };
+    encode(&with_masks(
+        message,
+        |sound| least_sound_mask(sound) | extra as u8 & 0b11,
+        |client| (least_client_mask(client) | extra & 0x70FF) & keep,
+        |update| {
+            let mask = least_update_mask(scene, update) | extra & 0x7F5F;
+            mask | u16::from(mask & 0xFF00 != 0)
+        },
+    ))
 }
 
 /// Bits to send that need not be.
@@ -45,7 +54,7 @@ fn wasteful_track(track: i32, rng: &mut Rng) -> String {
 fn write_blocks(
     mut out: Vec<u8>,
     reading: &Reading,
-    mut write: impl FnMut(&Scene, &crate::message::FilledIn) -> Vec<u8>,
+    mut write: impl FnMut(&Scene, &FilledIn) -> Vec<u8>,
 ) -> Vec<u8> {
     let mut scene = Scene::start();
     for (angles, messages) in &reading.blocks {

@@ -7,8 +7,10 @@
 pub mod boundary;
 pub mod damage;
 pub mod encode;
+mod present;
 pub mod reading;
 pub mod rng;
+pub mod words;
 
 use crate::message::Refusal;
 use crate::scene::MAX_ENTITY;
@@ -33,6 +35,8 @@ pub struct Input {
     pub name: String,
     pub bytes: Vec<u8>,
     pub expect: Expect,
+    /// The number of present marks behind each whole block, where it is known.
+    pub present: Option<Vec<u16>>,
 }
 
 fn boundaries() -> &'static [Input] {
@@ -61,7 +65,7 @@ pub fn generate(seed: u64, index: usize) -> Input {
         6 => ("bad sizes", damage::sizes(&mut rng), Expect::Unknown),
         _ => ("damaged message", damage::message(&mut rng), Expect::Unknown),
     };
-    Input { name: format!("{name} {seed}/{index}"), bytes, expect }
+    Input { name: format!("{name} {seed}/{index}"), bytes, expect, present: None }
 }
 
 fn normal(rng: &mut Rng) -> Vec<u8> {

@@ -84,7 +84,8 @@ fn longest(message: &FilledIn) -> usize {
         }
 }
 
-fn message(rng: &mut Rng, scene: &Scene) -> FilledIn {
+/// A message that the scene allows.
+pub fn message(rng: &mut Rng, scene: &Scene) -> FilledIn {
     if rng.chance(35) {
         return update(rng, scene);
     }
@@ -143,7 +144,7 @@ impl Rng {
 }
 
 /// A few entities come often, so that baselines and updates meet.
-fn entity(rng: &mut Rng) -> u16 {
+pub fn entity(rng: &mut Rng) -> u16 {
     if rng.chance(80) {
         rng.pick(&EDGES)
     } else {

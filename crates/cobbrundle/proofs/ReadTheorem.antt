@@ -17,7 +17,7 @@ use denote.Laws.{Is}
 use denote.Struct.Declared.{row}
 use Rattle.dem.specs.Limits.{headSize}
 use Rattle.format.specs.Bytes.{Bytes, found, refused, mapResult}
-use Rattle.dem.specs.Scene.{Scene as Described, fresh, inRange}
+use Rattle.dem.specs.Scene.{Scene as Described, fresh, countMarks, inRange}
 use Rattle.dem.specs.Message.{Message as Values, fill, apply}
 use Rattle.format.specs.Codec.{after, readAll, fillAll, applyAll}
 use Rattle.dem.specs.Track.{TrackLine, readTrack, trackNumber}
@@ -31,7 +31,7 @@ use Rattle.format.proofs.ByteLaws.{drop-bytes, take-bytes}
 use Rattle.format.proofs.CodecLaws.{afterAll}
 use Rattle.format.proofs.ReadLaws.{all-complete}
 use Rattle.dem.proofs.BlockLaws.{message-lawful, block-lawful}
-use Rattle.dem.proofs.RangeLaws.{message-range, fresh-range, block-range}
+use Rattle.dem.proofs.RangeLaws.{range→, message-range, fresh-range, block-range}
 use Rattle.dem.proofs.RecordingLaws.{accepted-exactly}
 use Rattle.dem.proofs.SceneLaws.{Shaped, fresh-shaped, apply-shaped, block-shaped, AfterMessage, message-does}
 use Rattle.format.proofs.CallLaws.{FoundItem, end-told, refusal-told, found-told, all-end, all-refused, all-found}
@@ -58,14 +58,15 @@ use Rattle.dem_messages.proofs.Theorems.{written-back}
 -- ---- the statement
 
 -- Of a call that found a message: as sent it is one that the layouts allow in this scene; its bytes are those from its place to the next; it is
--- filled in by document 01's rules; the scene after it is the one that they give, said once more part by part; written back in the same scene,
--- in room that is enough, it is its bytes, and the scene after it the same.
+-- filled in by document 01's rules; the scene after it is the one that they give, said once more part by part, and keeps the number of its
+-- present marks; written back in the same scene, in room that is enough, it is its bytes, and the scene after it the same.
 pub record MessageFound (block : List ℕ) (c : MessageCall) : Type 0 where
   pub good : GoodMessage (sceneOf (c .scene)) (messageSent block c)
   pub bytes : take (c .next - c .place) (drop (c .place) block) ≡ writeMessage (sceneOf (c .scene)) (messageSent block c)
   pub filled : messageOut block c ≡ fill (sceneOf (c .scene)) (messageSent block c)
   pub scene : sceneOf (c .after) ≡ apply (sceneOf (c .scene)) (messageOut block c)
   pub does : AfterMessage (sceneOf (c .scene)) (messageSent block c) (sceneOf (c .after))
+  pub counted : c .after .«present_count» ≡ countMarks (c .after .present)
   pub back : (w : WriteReply) (room out : List ℕ) → writtenOf w out ≡ writeSent (sceneOf (c .scene)) (messageSent block c) room
       → c .next - c .place ≤ length room
       → (countOf (w .answer) ≡ result (c .next - c .place))
@@ -73,7 +74,7 @@ pub record MessageFound (block : List ℕ) (c : MessageCall) : Type 0 where
       × (sceneOf (w .scene) ≡ sceneOf (c .after))
 
 -- Of a call that found a block: its messages are behind its head; the calls for them found as many as were told, which tile them, and lead to
--- the scene that was told; the bytes from its place to the next are those of the block as sent.
+-- the scene that was told, with the number of its present marks; the bytes from its place to the next are those of the block as sent.
 pub record BlockFound (s : List ℕ) (b : BlockCall) : Type 0 where
   pub start : b .outline .start ≡ b .place + headSize
   pub good : GoodBlock (sceneOf (b .scene)) (blockSent s b)
@@ -82,6 +83,7 @@ pub record BlockFound (s : List ℕ) (b : BlockCall) : Type 0 where
   pub messages : Every (MessageFound (bytesOf s (b .outline))) (b .messages)
   pub tiles : MessagesTile 0 (b .messages) (length (bytesOf s (b .outline)))
   pub scene : sceneOf (b .after) ≡ sceneOf (b .left)
+  pub counted : b .after .«present_count» ≡ countMarks (b .after .present)
 
 -- Of the calls for a recording.
 pub record RecordingWalked (s : List ℕ) (a : TrackAnswer) (bs : List BlockCall) (y : Scene) (o : Outcome) : Type 0 where
@@ -103,13 +105,18 @@ pub held-shaped : (x : Scene) (vs : List Val) → Is (row SceneType.the-type) x 
 unfolding sceneWith
 held-shaped x vs p =
     let f = p .1 .1 in
-    let rest = f .1 .1 .1 .0 .1 .1 in
+    let rest = f .1 .1 .1 .1 .0 .1 .1 in
     record {
       baselines = length-map (x .baselines) baselineNumbers ∙ sym (length-map (x .baselines) _) ∙ f .0 .1 .0 .1;
       records = length-map (x .records) recordNumbers ∙ sym (length-map (x .records) _) ∙ f .1 .0 .1 .0 .1;
       present = sym (length-map (x .present) _) ∙ f .1 .1 .0 .1 .0 .1;
       stats = length-map (x .rest .stats) (ofZ w32) ∙ sym (length-map (x .rest .stats) _) ∙ rest .0 .1 .0 .1;
     }
+
+-- Where it is in range, its number is that of its marks.
+held-counted : (x : Scene) → inRange (sceneOf x) ≡ true → x .«present_count» ≡ countMarks (x .present)
+unfolding sceneWith
+held-counted x r = range→ (sceneOf x) r .count
 
 -- ---- a message
 
@@ -145,6 +152,8 @@ module _ (block : List ℕ) (bytes : Bytes block) (c : MessageCall)
         does =
             subst (AfterMessage t (item .sent)) (sym (found-item .after ∙ ap (apply t) (found-item .filled)))
             (message-does t (item .sent) (found-item .good) (found-item .range) h);
+        counted = held-counted (c .after)
+            (ap inRange (found-item .after ∙ ap (apply t) (found-item .filled)) ∙ message-range t (item .sent) (found-item .good) (found-item .range));
         back = written-back (c .scene) block (c .place) bytes answered (c .message) (c .filled) (c .next) read refl;
       }
 
@@ -278,6 +287,8 @@ module _ (s : List ℕ) (bytes : Bytes s) (b : BlockCall) (read : ReadsBlock (b 
           messages = m;
           tiles = d .tiles;
           scene = sym (messages-after ∙ block-after);
+          counted = held-counted (b .after)
+              (ap inRange (sym block-after) ∙ block-range before (blockSent s b) (subst (GoodBlock before) (sym block-is) (found-block .good)) (found-block .range));
         }
 
 -- ---- the blocks of a recording

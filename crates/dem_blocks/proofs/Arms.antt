@@ -19,7 +19,7 @@ use Rattle.dem.specs.Kind
 use Rattle.dem.specs.Limits.{entityCount}
 use Rattle.format.specs.Bytes.{Bytes, Result, found, refused, mapResult}
 use Rattle.format.specs.Layout.{Value, number, Layout, parse, print, tail, put}
-use Rattle.dem.specs.Scene.{Scene, Context, contextOf, cleared}
+use Rattle.dem.specs.Scene.{Scene, Context, contextOf, cleared, countMarks, inRange}
 use Rattle.dem.specs.Message.{isMessage, isUpdate, numberRule, kindLayout, layout, layoutIn, updateLayout, fillUpdate, fillClient, fillSound, fill}
 use Rattle.dem.specs.Message.{sendUpdate, sendClient, sendSound, normal, apply, normal as normalMessage}
 use Rattle.format.specs.Codec.{normalBytes}
@@ -30,6 +30,8 @@ use Rattle.dem.proofs.BlockLaws.{message-lawful}
 use Rattle.dem_normal.proofs.PlainForm.{plain-form}
 use Rattle.format.proofs.LayoutLaws.{Allowed}
 use Rattle.format.proofs.AtLaws.{one-at, parse-good}
+use Rattle.dem.proofs.CountLaws.{count-set, count-none}
+use Rattle.dem.proofs.RangeLaws.{range→}
 use Rattle.dem.proofs.MessageLaws.{kind-update, fill-update, fill-client}
 use Rattle.dem.proofs.UpdateLaws.{entity-known, UpdateRead, update-read}
 use Rattle.wire.specs.Cursors.{gotten, parseAt, placed}
@@ -49,13 +51,14 @@ use Rattle.dem_types.specs.declared.Sound.{Sound}
 use Rattle.dem_types.specs.declared.Update.{Update}
 use Rattle.dem_types.specs.Values.{valuesOf, valuesBy, soundValues, updateValues}
 use Rattle.dem_parts.specs.Kinds.{gottenMessage, kindAt}
-use Rattle.dem_scene.specs.Views.{Numbered, baselineNumbers, recordNumbers, recordValues, clientValues, sceneWith, withTables}
+use Rattle.dem_scene.specs.Views.{Numbered, baselineNumbers, recordNumbers, recordValues, clientValues, Tables, noTables, unmarked, sceneWith, sceneOf, withTables}
 use Rattle.dem_scene.specs.declared.Baseline.{Baseline}
 use Rattle.dem_scene.specs.declared.Client.{Client}
 use Rattle.dem_scene.specs.declared.Record.{Record}
 use Rattle.dem_scene.specs.declared.Rest.{Rest}
+use Rattle.dem_scene.specs.declared.Scene.{Scene as Given}
 use Rattle.dem_scene.proofs.Changes.{set-seen, seen-at}
-use Rattle.dem_effects.proofs.Tables.{update-applied, matched, not-among, tables-kept, rest-joined}
+use Rattle.dem_effects.proofs.Tables.{tablesIn, withBaselines, updated, update-applied, matched, not-among, tables-kept, rest-joined}
 use Rattle.dem_reader.specs.Passed.{isPassed}
 use Rattle.dem_reader.proofs.Arms.{update-arm}
 use Rattle.dem_reader.proofs.Passing.{each-passed}
@@ -64,9 +67,22 @@ use Rattle.dem_reader.proofs.Readings.{read-allowed, read-values, read-number, 
 use Rattle.dem_direct.specs.Spread.{clientAt}
 use Rattle.dem_blocks.proofs.Turns.{Moved}
 
--- The scene of these parts.
+-- The scene of these parts: its number of marks is that of these.
+abbrev pub heldTables : List Baseline → List Record → List Bool → Tables
+heldTables b e p = record { baselines = map baselineNumbers b; records = map recordNumbers e; present = p; presentCount = countMarks p }
+
 abbrev pub held : List Baseline → List Record → List Bool → Rest → Scene
-held b e p x = sceneWith (map baselineNumbers b) (map recordNumbers e) p x
+held b e p x = sceneWith (heldTables b e p) x
+
+-- A scene that code holds and that is in range is so held.
+pub given-held : (s : Given) → inRange (sceneOf s) ≡ true → sceneOf s ≡ held (s .baselines) (s .records) (s .present) (s .rest)
+unfolding sceneWith
+given-held s r = ap (λ (n : ℕ). sceneWith (record {
+  baselines = map baselineNumbers (s .baselines);
+  records = map recordNumbers (s .records);
+  present = s .present;
+  presentCount = n;
+}) (s .rest)) (range→ (sceneOf s) r .count)
 
 abbrev pub noBaseline : Baseline
 noBaseline =
@@ -129,9 +145,15 @@ client-read s at x k c = go (eqb (c .refusal) 0) refl (parseAt s (here at) (kind
         }
 
 -- No mark is set in a cleared scene.
-pub cleared-present : (b : List Baseline) (e : List Record) (p : List Bool) (x : Rest) (n : ℕ) → held b e p x ≡ cleared n → held b e (replicate entityCount false) x ≡ cleared n
+pub cleared-present : (s : Given) (n : ℕ) → sceneOf s ≡ cleared n → held (s .baselines) (s .records) (replicate entityCount false) (s .rest) ≡ cleared n
 unfolding sceneWith
-cleared-present b e p x n g = ap (λ (q : List Bool). held b e q x) (sym (ap (λ (t : Scene). t .present) g)) ∙ g
+cleared-present s n g =
+    (λ i. sceneWith (record {
+      baselines = map baselineNumbers (s .baselines);
+      records = map recordNumbers (s .records);
+      present = sym (ap (λ (t : Scene). t .present) g) i;
+      presentCount = (count-none entityCount ∙ sym (ap (λ (t : Scene). t .presentCount) g)) i;
+    }) (s .rest)) ∙ g
 
 module _ (s : List ℕ) (at : ℕ) (l : at < length s) (b : List Baseline) (e : List Record) (p : List Bool) (x : Rest) where
   pub ended-refused : x .ended ≡ true → readMessage (held b e p x) (drop at s) ≡ refused 11 (drop at s)
@@ -163,6 +185,16 @@ module _ (s : List ℕ) (at : ℕ) (l : at < length s) (b : List Baseline) (e : 
           (message-lawful .sound (held b e p x) (drop at s) vs (drop (c .at) s) (drop-bytes at s h) (message-found (held b e p x) s at going vs c q z) .tiles)
 
     -- ---- an update
+
+    held-updated : (i : ℕ) (r : Record) → held b (set e i r) (set p i true) x ≡ withTables (updated (held b e p x) i (recordNumbers r)) (held b e p x)
+    unfolding sceneWith
+    held-updated i r =
+        λ j. sceneWith (record {
+          baselines = map baselineNumbers b;
+          records = set-seen recordNumbers e i r _ refl j;
+          present = set p i true;
+          presentCount = count-set p i j;
+        }) x
 
     -- The bytes of an update of entity i to a record.
     abbrev pub updateForm : ℕ → Record → List ℕ
@@ -210,7 +242,7 @@ module _ (s : List ℕ) (at : ℕ) (l : at < length s) (b : List Baseline) (e : 
             let i = u .entity .0 in
             let seen = seen-at baselineNumbers b i noBaseline in
             parsed-moved (updateValues u) c update-parsed z _
-            (sym (ap (λ (l : List (List ℕ)). withTables (t .baselines) l (set (t .present) i true) t) (set-seen recordNumbers e i r _ refl)
+            (sym (held-updated i r
             ∙ update-applied t u r (baselineNumbers (getD b i noBaseline)) (leb-true 128 (u .number) numbered) seen f))
             _ (update-normal i r (updateValues u)
             (fill-update t (u .number) (tail (updateValues u)) numbered ∙ ap (λ (y : List ℕ). fillUpdate y (u .number) (tail (updateValues u))) (sym seen) ∙ sym f))
@@ -249,7 +281,7 @@ module _ (s : List ℕ) (at : ℕ) (l : at < length s) (b : List Baseline) (e : 
             values = number n ∷ us;
             read = filled-read;
             scene = ap (apply t) filled
-                ∙ sym (ap (λ (l : List (List ℕ)). withTables (t .baselines) l (set (t .present) i true) t) (set-seen recordNumbers e i r _ refl));
+                ∙ sym (held-updated i r);
             normal = update-normal i r (number n ∷ us) filled;
           }
 
@@ -266,11 +298,17 @@ module _ (s : List ℕ) (at : ℕ) (l : at < length s) (b : List Baseline) (e : 
     -- ---- a time, and clientdata
 
     pub time-moved : Bytes s → (v : ℕ) (y : Rest) (c : Cursor) → gotten s (number 7 ∷ number v ∷ []) c ≡ parseAt s (here at) (layoutIn (held b e p x)) → c .refusal ≡ 0
-        → ((b e : List (List ℕ)) (p : List Bool) → sceneWith b e (replicate entityCount false) y ≡ apply (sceneWith b e p x) (number Kind.time ∷ number v ∷ []))
+        → ((t : Tables) → sceneWith (unmarked t) y ≡ apply (sceneWith t x) (number Kind.time ∷ number v ∷ []))
         → Moved s (held b e p x) at (held b e (replicate entityCount false) y) (c .at) (take (c .at - at) (drop at s))
     unfolding fill normal
     time-moved h v y c q z g =
-        parsed-moved (number 7 ∷ number v ∷ []) c q z _ (sym (g (map baselineNumbers b) (map recordNumbers e) p))
+        parsed-moved (number 7 ∷ number v ∷ []) c q z _
+        (sym (g (heldTables b e p)) ∙ ap (λ (n : ℕ). sceneWith (record {
+          baselines = map baselineNumbers b;
+          records = map recordNumbers e;
+          present = replicate entityCount false;
+          presentCount = n;
+        }) y) (sym (count-none entityCount)))
         _ (parsed-bytes (number 7 ∷ number v ∷ []) c q h z)
 
     -- The bytes of clientdata.
@@ -286,13 +324,13 @@ module _ (s : List ℕ) (at : ℕ) (l : at < length s) (b : List Baseline) (e : 
     pub client-moved : (us : List Value) (k : Client) (y : Rest) (c : Cursor)
         → gotten s (number 15 ∷ us) c ≡ parseAt s (here at) (layoutIn (held b e p x)) → c .refusal ≡ 0
         → number Kind.clientdata ∷ clientValues k ≡ fillClient us
-        → ((b e : List (List ℕ)) (p : List Bool) → sceneWith b e p y ≡ apply (sceneWith b e p x) (number Kind.clientdata ∷ clientValues k))
+        → ((t : Tables) → sceneWith t y ≡ apply (sceneWith t x) (number Kind.clientdata ∷ clientValues k))
         → Moved s (held b e p x) at (held b e p y) (c .at) (clientForm k)
     unfolding normal writeMessage
     client-moved us k y c q z f g =
         let filled : fill (held b e p x) (number 15 ∷ us) ≡ number Kind.clientdata ∷ clientValues k = fill-client (held b e p x) us ∙ sym f in
         parsed-moved (number 15 ∷ us) c q z _
-        (ap (apply (held b e p x)) filled ∙ sym (g (map baselineNumbers b) (map recordNumbers e) p))
+        (ap (apply (held b e p x)) filled ∙ sym (g (heldTables b e p)))
         _ (ap (λ (m : List Value). print (layoutIn (held b e p x)) (normal (held b e p x) m)) filled)
 
     -- ---- a sound
@@ -364,7 +402,7 @@ module _ (s : List ℕ) (at : ℕ) (l : at < length s) (b : List Baseline) (e : 
           baseline-moved i o r f =
               let t = held b e p x in
               other-moved _
-              (sym (ap (λ (l : List (List ℕ)). withTables l (t .records) (t .present) t)
+              (sym (ap (λ (l : List (List ℕ)). withBaselines l t)
               (set-seen baselineNumbers b (i .0) (record { look = o; pose = r }) _ refl)
               ∙ matched t (placed s) m (M.Baseline i o r) f))
 
@@ -375,7 +413,7 @@ module _ (s : List ℕ) (at : ℕ) (l : at < length s) (b : List Baseline) (e : 
 
           pub rest-moved : (ks : List ℕ) → OneOf ks (tagOf Messages.the-type m) → T (not (hasKey ks 10)) → T (not (hasKey ks 20))
               → 7 ≢ getD s at 0 → (y : Rest)
-              → ((b e : List (List ℕ)) (p : List Bool) → Numbered m → sceneWith [] [] [] y ≡ withTables [] [] [] (apply (sceneWith b e p x) (fill (sceneWith b e p x) (valuesOf s m))))
+              → ((t : Tables) → Numbered m → sceneWith noTables y ≡ withTables noTables (apply (sceneWith t x) (fill (sceneWith t x) (valuesOf s m))))
               → Moved s (held b e p x) at (held b e p y) (c .at) otherForm
           unfolding sceneWith
           rest-moved ks o n10 n20 n7 y f =
@@ -389,5 +427,4 @@ module _ (s : List ℕ) (at : ℕ) (l : at < length s) (b : List Baseline) (e : 
                 update = λ u g. no-update u g;
               }) in
               other-moved _
-              (sym (rest-joined (apply t (fill t (valuesOf s m))) y (t .baselines) (t .records) (t .present)
-              (f (t .baselines) (t .records) (t .present) numbered) (kept .0) (kept .1) (kept .2)))
+              (sym (rest-joined (apply t (fill t (valuesOf s m))) y (tablesIn t) (f (tablesIn t) numbered) kept))

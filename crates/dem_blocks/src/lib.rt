@@ -11,7 +11,7 @@ ghost use Rattle.format.specs.Layout.{number, print, tail};
 ghost use Rattle.dem.specs.Limits.{blockLimit, entityCount, headSize};
 ghost use Rattle.dem.specs.Message.{layout, fillUpdate, sendUpdate, fillSound, sendSound, sendClient};
 ghost use Rattle.dem.specs.Recording.{angleLayout, blocks as recordingBlocks};
-ghost use Rattle.dem.specs.Scene.{Context, contextOf, inRange};
+ghost use Rattle.dem.specs.Scene.{Context, contextOf, countMarks, inRange};
 ghost use Rattle.format.specs.Codec.{runMost};
 ghost use Rattle.wire.specs.Cursors.{gotten};
 ghost use Rattle.dem_types.specs.Values.{soundValues, updateValues};
@@ -80,11 +80,17 @@ fn refused_in(
     WrittenAt { read, written }
 }
 
+// The present marks, and how many are set.
+struct Present {
+    marks: [bool; ENTITY_COUNT],
+    count: u16,
+}
+
 // Nothing was refused, or a block's head: the scene of these parts.
 fn answer(
     baselines: [Baseline; ENTITY_COUNT],
     records: [Record; ENTITY_COUNT],
-    present: [bool; ENTITY_COUNT],
+    present: Present,
     rest: Rest,
     blocks: usize,
     messages: usize,
@@ -92,13 +98,15 @@ fn answer(
     refusal: u8,
     written: usize,
 ) -> WrittenAt
-    ensures { λ r. ⌜ answered (r .read) ≡ record { scene = sceneWith (map baselineNumbers baselines) (map recordNumbers records) present rest; blocks = blocks; messages = messages; next = next; refusal = refusal; place = next } ⌝ }
+    ensures { λ r. ⌜ answered (r .read) ≡ record { scene = sceneWith (record { baselines = map baselineNumbers baselines; records = map recordNumbers records; present = present .marks; presentCount = present .count }) rest; blocks = blocks; messages = messages; next = next; refusal = refusal; place = next } ⌝ }
     ensures bytes { λ r. ⌜ r .written ≡ written ⌝ }
 {
+    let marks = present.marks;
     let scene = Scene {
         baselines,
         records,
-        present,
+        present: marks,
+        present_count: present.count,
         rest,
     };
     let read = BlocksAt {
@@ -205,16 +213,23 @@ fn marks_of(present: [bool; ENTITY_COUNT]) -> [usize; ENTITY_COUNT]
     marks
 }
 
-fn present_of(marks: [usize; ENTITY_COUNT], since: usize) -> [bool; ENTITY_COUNT]
-    ensures { λ r. ⌜ r ≡ marked since marks ⌝ }
+fn present_of(marks: [usize; ENTITY_COUNT], since: usize) -> Present
+    ensures { λ r. ⌜ r .marks ≡ marked since marks ⌝ }
+    ensures count { λ r. ⌜ r .count ≡ countMarks (marked since marks) ⌝ }
 {
     let mut present = [false; ENTITY_COUNT];
+    let mut count: u16 = 0;
     let mut i: usize = 0;
     while i < ENTITY_COUNT {
-        present[i] = since < marks[i];
+        let mark = since < marks[i];
+        present[i] = mark;
+        count += mark as u16;
         i += 1;
     }
-    present
+    Present {
+        marks: present,
+        count,
+    }
 }
 
 // ---- a message that has a normal form of its own: read, and put anew behind what is kept, if normal forms are written

@@ -6,14 +6,13 @@ use mathlib.Core.Bool.{Bool, true, false, not, _||_}
 use Prim.Native.Nat.{ℕ, _≤_, _<_}
 use borrow.Author.Tests.{le-leb}
 use lib.Dec.{T}
-use lib.ListN.{set, replicate}
+use lib.ListN.{set}
 use Rattle.dem.specs.Kind
-use Rattle.dem.specs.Limits.{entityCount}
 use Rattle.format.specs.Layout.{Value, number, numbers, tail}
 use Rattle.dem.specs.Scene.{Scene, Baseline, baselineAt}
-use Rattle.dem.specs.Message.{fillUpdate, fill, apply}
+use Rattle.dem.specs.Message.{countWith, fillUpdate, fill, apply}
 use Rattle.dem.proofs.MessageLaws.{fill-update}
-use Rattle.dem.proofs.SceneLaws.{Part, baselines, records, present, changes, Unchanged, filled-frame}
+use Rattle.dem.proofs.SceneLaws.{Part, baselines, records, present, presentCount, changes, Unchanged, filled-frame}
 use Rattle.dem_types.specs.Values.{updateValues, valuesBy}
 use Rattle.dem_types.specs.declared.Entity.{Entity}
 use Rattle.dem_types.specs.declared.Look.{Look}
@@ -28,16 +27,31 @@ use Rattle.dem_types.proofs.Message as Messages
 use Rattle.dem_types.proofs.ByNumber.{updatePlace, by-number, not-at}
 use Rattle.dem_types.specs.declared.Message.{Message as Sent}
 use Rattle.dem_types.specs.declared.Message.the-variants as M
-use Rattle.dem_scene.specs.Views.{recordValues, baselineNumbers, BaselineOf, sceneWith, withTables}
+use Rattle.dem_scene.specs.Views.{recordValues, baselineNumbers, BaselineOf, Tables, noTables, unmarked, sceneWith, withTables}
 use Rattle.dem_scene.specs.declared.Baseline.{Baseline as Held}
 use Rattle.dem_scene.specs.declared.Rest.{Rest}
 use Rattle.dem_scene.specs.declared.Record.{Record}
 
+abbrev pub tablesIn : Scene → Tables
+tablesIn s = record { baselines = s .baselines; records = s .records; present = s .present; presentCount = s .presentCount }
+
+abbrev pub withBaselines : List Baseline → Scene → Scene
+withBaselines b s = withTables (record { baselines = b; records = s .records; present = s .present; presentCount = s .presentCount }) s
+
+-- The tables with an entity's record and mark set.
+abbrev pub updated : Scene → ℕ → List ℕ → Tables
+updated s i r =
+    record {
+      baselines = s .baselines;
+      records = set (s .records) i r;
+      present = set (s .present) i true;
+      presentCount = countWith (s .present) i (s .presentCount);
+    }
+
 -- What an update does, by the record that it is filled in to.
 pub update-applied : (s : Scene) (u : Update) (r : Record) (b : Baseline) → Kind.update ≤ u .number → b ≡ baselineAt s (u .entity .0)
     → number Kind.update ∷ number (u .entity .0) ∷ recordValues r ≡ fillUpdate b (u .number) (tail (updateValues u))
-    → withTables (s .baselines) (set (s .records) (u .entity .0) (numbers (recordValues r))) (set (s .present) (u .entity .0) true) s
-    ≡ apply s (fill s (updateValues u))
+    → withTables (updated s (u .entity .0) (numbers (recordValues r))) s ≡ apply s (fill s (updateValues u))
 unfolding apply
 update-applied s u r b h e f =
     ap (apply s) (f ∙ ap (λ (x : Baseline). fillUpdate x (u .number) (tail (updateValues u))) e
@@ -49,14 +63,9 @@ matched s t m k e = ap (λ (x : Sent). apply s (fill s (valuesBy t x))) (sym e)
 
 -- A time clears every mark.
 pub time-tables : (s : Scene) (t : Text → List ℕ) (m : Sent) (v : ℕ) → m ≡ M.Time v
-    → (apply s (fill s (valuesBy t m)) .baselines ≡ s .baselines) × (apply s (fill s (valuesBy t m)) .records ≡ s .records)
-    × (apply s (fill s (valuesBy t m)) .present ≡ replicate entityCount false)
+    → tablesIn (apply s (fill s (valuesBy t m))) ≡ unmarked (tablesIn s)
 unfolding apply fill
-time-tables s t m v e = (
-  ap (λ (x : Sent). apply s (fill s (valuesBy t x)) .baselines) e,
-  ap (λ (x : Sent). apply s (fill s (valuesBy t x)) .records) e,
-  ap (λ (x : Sent). apply s (fill s (valuesBy t x)) .present) e,
-)
+time-tables s t m v e = ap (λ (x : Sent). tablesIn (apply s (fill s (valuesBy t x)))) e
 
 -- ---- the messages that change no table
 
@@ -83,23 +92,26 @@ others-tableless m h =
     }
 
 -- The tables of a scene after one of them.
-pub tables-kept : (s : Scene) (t : Text → List ℕ) (m : Sent) → Tableless m
-    → (apply s (fill s (valuesBy t m)) .baselines ≡ s .baselines) × (apply s (fill s (valuesBy t m)) .records ≡ s .records)
-    × (apply s (fill s (valuesBy t m)) .present ≡ s .present)
+pub tables-kept : (s : Scene) (t : Text → List ℕ) (m : Sent) → Tableless m → tablesIn (apply s (fill s (valuesBy t m))) ≡ tablesIn s
 tables-kept s t m h =
     let k = by-number t m (not-at updatePlace m (λ x. h .update (x .0))) in
     let time = k .other 6 (not-at 6 m (λ x. h .time (x .0))) in
     let serverinfo = k .other 10 (not-at 10 m (λ x. h .serverinfo (x .0))) in
     let baseline = k .other 20 (not-at 20 m (λ x. h .baseline (x .0) (x .1 .0) (x .1 .1 .0))) in
+    let marks = ap₂ _||_ (k .low) time in
     let kept : (p : Part) → changes (k .n) p ≡ false → Unchanged p s (apply s (fill s (valuesBy t m))) =
     λ p e. subst (λ (vs : List Value). Unchanged p s (apply s (fill s vs))) (sym (k .is)) (filled-frame p s (k .n) (k .us) (k .low) e serverinfo) in
-    (kept baselines baseline, kept records (k .low), kept present (ap₂ _||_ (k .low) time))
+    λ i. record {
+      baselines = kept baselines baseline i;
+      records = kept records (k .low) i;
+      present = kept present marks i;
+      presentCount = kept presentCount marks i;
+    }
 
 -- A scene from its tables and its rest.
-pub rest-joined : (s : Scene) (x : Rest) (b e : List (List ℕ)) (p : List Bool) → sceneWith [] [] [] x ≡ withTables [] [] [] s
-    → s .baselines ≡ b → s .records ≡ e → s .present ≡ p → sceneWith b e p x ≡ s
+pub rest-joined : (s : Scene) (x : Rest) (t : Tables) → sceneWith noTables x ≡ withTables noTables s → tablesIn s ≡ t → sceneWith t x ≡ s
 unfolding sceneWith
-rest-joined s x b e p q eb ee ep = ap (withTables b e p) q ∙ sym (λ i. withTables (eb i) (ee i) (ep i) s)
+rest-joined s x t q e = ap (withTables t) q ∙ ap (λ (k : Tables). withTables k s) (sym e)
 
 -- ---- the baseline that a message is filled in from
 

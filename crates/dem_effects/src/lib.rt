@@ -1,7 +1,8 @@
 // What a message does to the scene.
 ghost use mathlib.Core.Path.{_≡_};
 ghost use mathlib.Core.List.{List, [], _∷_, _++_};
-ghost use Prim.Native.Nat.{ℕ, _≤_, _<_};
+ghost use mathlib.Core.Bool.{cond};
+ghost use Prim.Native.Nat.{ℕ, _+_, _≤_, _<_};
 ghost use Rattle.dem.specs.Kind;
 ghost use Rattle.format.specs.Layout.{Value, number};
 ghost use Rattle.dem.specs.Message.{apply, fill};
@@ -58,7 +59,16 @@ fn with_baseline(s: Scene, entity: Entity, look: Look, pose: Pose) -> Scene
     y
 }
 
+// How many marks are set once one is that may have been.
+fn count_with(set: bool, count: u16) -> u16
+    requires { ⌜ count < 65535 ⌝ }
+    ensures { λ r. ⌜ r ≡ cond set count (count + 1) ⌝ }
+{
+    if set { count } else { count + 1 }
+}
+
 fn with_update(s: Scene, u: Update) -> Scene
+    requires { ⌜ s .«present_count» < 65535 ⌝ }
     ensures { λ r. ⌜ (Kind.update ≤ u .number → sceneOf r ≡ apply (sceneOf s) (fill (sceneOf s) (updateValues u))) ⌝ }
 {
     let entity = u.entity;
@@ -68,6 +78,8 @@ fn with_update(s: Scene, u: Update) -> Scene
     let mut y = s;
     if i < ENTITY_COUNT {
         y.records[i] = record;
+        let set = y.present[i];
+        y.present_count = count_with(set, y.present_count);
         y.present[i] = true;
     }
     y
@@ -75,7 +87,7 @@ fn with_update(s: Scene, u: Update) -> Scene
 
 // The scene after a message, whose strings are places in a text.
 pub fn scene_after(s: Scene, m: Message, text: &[u8]) -> Scene
-    requires { ⌜ s .rest .statics < 255 ⌝ }
+    requires { ⌜ (s .rest .statics < 255) × (s .«present_count» < 65535) ⌝ }
     ensures { λ r. ⌜ (Numbered m → sceneOf r ≡ apply (sceneOf s) (fill (sceneOf s) (valuesOf (now (text .entry)) m))) ⌝ }
 {
     match m {
@@ -88,6 +100,7 @@ pub fn scene_after(s: Scene, m: Message, text: &[u8]) -> Scene
             let present = [false; ENTITY_COUNT];
             let mut y = s;
             y.present = present;
+            y.present_count = 0;
             y.rest = after;
             y
         }

@@ -17,7 +17,7 @@ use Rattle.dem.specs.Kind
 use Rattle.format.specs.Bytes.{Result, found, refused}
 use Rattle.format.specs.Layout.{Value, number, numbers, firstNumber, tail}
 use Rattle.format.specs.Floats.{timeInRange}
-use Rattle.dem.specs.Scene.{PlayerLine, Scene, zeroLine, at, cleared, inRange}
+use Rattle.dem.specs.Scene.{PlayerLine, Scene, zeroLine, at, cleared, countMarks, inRange}
 use Rattle.dem.specs.Message.{Message, fill, changed, apply}
 use Rattle.format.specs.Answer.{placeIn, Answer, result, atEnd, refusal, Item, Reply, reply, itemOf, itemAt}
 use Rattle.dem.specs.Recording.{readMessage, messages}
@@ -125,7 +125,8 @@ module _ (s : Scene) (lines : List PlayerLine) where
   same-range : length (s .players) ≡ 16 → length lines ≡ 16 → inRange s′ ≡ inRange s
   unfolding inRange
   same-range p l =
-      ap (λ (n : ℕ). ltb (s .view) entityCount && leb (s .statics) staticLimit && leb (s .limit) playerCount && timeInRange (s .time) && eqb n playerCount)
+      ap (λ (n : ℕ). ltb (s .view) entityCount && leb (s .statics) staticLimit && leb (s .limit) playerCount && timeInRange (s .time) && eqb n playerCount
+      && eqb (s .presentCount) (countMarks (s .present)))
       (l ∙ sym p)
 
   -- No message is read or filled in by the lines.

@@ -58,6 +58,7 @@ withLines lines s =
       baselines = s .baselines;
       records = s .records;
       present = s .present;
+      presentCount = s .presentCount;
       stats = s .stats;
       client = s .client;
       view = s .view;

@@ -72,7 +72,8 @@ pub fn read_message_at(scene: Scene, bytes: &[u8], at: usize) -> MessageReply
     ensures { λ r. ⌜ replyOf (now (bytes .entry)) r ≡ messageAt (sceneOf scene) (now (bytes .entry)) at ⌝ }
 {
     let rest = scene.rest;
-    if !dem_scene::in_range(rest) {
+    let present = scene.present;
+    if !dem_scene::in_range(present, scene.present_count, rest) {
         return MessageReply {
             answer: MessageAnswer::Refused(WRONG_SCENE, 0),
             scene,
@@ -121,7 +122,8 @@ pub fn write_message(scene: Scene, message: Message, text: &[u8], room: &mut [u8
     ensures { λ r. ⌜ writtenOf r (now (room .exit)) ≡ writeSent (sceneOf scene) (valuesBy (placed (now (text .entry))) message) (now (room .entry)) ⌝ }
 {
     let rest = scene.rest;
-    if !dem_scene::in_range(rest) {
+    let present = scene.present;
+    if !dem_scene::in_range(present, scene.present_count, rest) {
         return WriteReply {
             answer: WriteAnswer::Refused(WRONG_SCENE, 0),
             scene,

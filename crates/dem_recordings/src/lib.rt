@@ -101,7 +101,8 @@ pub fn read_block_at(scene: Scene, bytes: &[u8], at: usize) -> BlockReply
     ensures { λ r. ⌜ blockReplyOf r ≡ outlineAt (sceneOf scene) (now (bytes .entry)) at ⌝ }
 {
     let rest = scene.rest;
-    if !dem_scene::in_range(rest) {
+    let present = scene.present;
+    if !dem_scene::in_range(present, scene.present_count, rest) {
         return BlockReply {
             answer: BlockAnswer::Refused(WRONG_SCENE, 0),
             scene,
@@ -167,7 +168,8 @@ pub fn read_blocks_at(scene: Scene, bytes: &[u8], at: usize) -> BlocksReply
     ensures { λ r. ⌜ blocksReplyOf r ≡ blocksAt (sceneOf scene) (now (bytes .entry)) at ⌝ }
 {
     let rest = scene.rest;
-    if !dem_scene::in_range(rest) {
+    let present = scene.present;
+    if !dem_scene::in_range(present, scene.present_count, rest) {
         return BlocksReply {
             answer: BlocksAnswer::Refused(WRONG_SCENE, 0),
             scene,
@@ -262,7 +264,8 @@ pub fn normal_blocks_at(scene: Scene, bytes: &[u8], at: usize, room: &mut [u8]) 
     ensures { λ r. ⌜ rewriteReplyOf r (now (room .exit)) ≡ normalBlocksAt (sceneOf scene) (now (bytes .entry)) at (now (room .entry)) ⌝ }
 {
     let rest = scene.rest;
-    if !dem_scene::in_range(rest) {
+    let present = scene.present;
+    if !dem_scene::in_range(present, scene.present_count, rest) {
         return RewriteReply {
             answer: RewriteAnswer::Refused(WRONG_SCENE, 0),
             scene,
@@ -292,7 +295,8 @@ pub fn normal_block_at(scene: Scene, bytes: &[u8], at: usize, room: &mut [u8]) -
     ensures { λ r. ⌜ normalReplyOf r (now (room .exit)) ≡ normalAt recordingBlocks normalBlock (sceneOf scene) (now (bytes .entry)) at (now (room .entry)) ⌝ }
 {
     let rest = scene.rest;
-    if !dem_scene::in_range(rest) {
+    let present = scene.present;
+    if !dem_scene::in_range(present, scene.present_count, rest) {
         return NormalReply {
             answer: NormalAnswer::Refused(WRONG_SCENE, 0),
             scene,

@@ -22,7 +22,7 @@ use Rattle.dem_types.proofs.Structs.{byte, long, entity, vector, look, pose, mo
 use Rattle.dem_scene.specs.declared.PlayerLine.{PlayerLine}
 use Rattle.dem_scene.specs.declared.Rest.{Rest}
 use Rattle.dem_scene.specs.declared.Scene.{Scene}
-use Rattle.dem_scene.specs.Views.{baselineNumbers, recordNumbers, clientValues, filledSoundValues, lineOf, sceneOf, sceneWith}
+use Rattle.dem_scene.specs.Views.{baselineNumbers, recordNumbers, clientValues, filledSoundValues, lineOf, Tables, tablesOf, sceneOf, sceneWith}
 use Rattle.dem_scene.proofs.Baseline as BaselineType
 use Rattle.dem_scene.proofs.Record as RecordType
 use Rattle.dem_scene.proofs.Client as ClientType
@@ -101,12 +101,13 @@ sceneFrom s =
       baselines = map (from baseline) (s .baselines);
       records = map (from latest) (s .records);
       present = s .present;
+      «present_count» = s .presentCount;
       rest = restFrom s;
     }
 
-rest-back : (b r : List (List ℕ)) (p : List Bool) (x : Rest) (vs : List Val) → Is RestType.the-row x vs → restFrom (sceneWith b r p x) ≡ x
+rest-back : (t : Tables) (x : Rest) (vs : List Val) → Is RestType.the-row x vs → restFrom (sceneWith t x) ≡ x
 unfolding sceneWith
-rest-back b r p x vs h =
+rest-back t x vs h =
     let f = h .1 .1 in
     let stats = array-undone i32-field (ofZ w32) (toZ w32) (λ z us q. toZ-ofZ w32 z (record { sfits = q .1 })) statCount (x .stats) _ (f .0) in
     let own = from-front client (x .client) _ (f .1 .0) [] in
@@ -131,8 +132,8 @@ scene-back s h =
     (s .baselines) _ (f .0) in
     let records = array-undone RecordType.the-field recordNumbers (from latest) (λ r vs g. from-front latest r vs g []) entityCount
     (s .records) _ (f .1 .0) in
-    let rest = rest-back (map baselineNumbers (s .baselines)) (map recordNumbers (s .records)) (s .present) (s .rest) _ (f .1 .1 .1 .0) in
-    λ i. record { baselines = baselines i; records = records i; present = s .present; rest = rest i }
+    let rest = rest-back (tablesOf s) (s .rest) _ (f .1 .1 .1 .1 .0) in
+    λ i. record { baselines = baselines i; records = records i; present = s .present; «present_count» = s .«present_count»; rest = rest i }
 
 pub scene-fixed : Fixed SceneType.the-row sceneOf
 scene-fixed = fixed-by SceneType.the-row sceneOf sceneFrom scene-back

@@ -1,13 +1,15 @@
 -- The scene that code holds, as the definitions' one: signed numbers by their bits, entities and clientdata in wire order.
 use mathlib.Core.Path.{_≡_}
 use mathlib.Core.List.{List, [], _∷_, _++_, map}
-use mathlib.Core.Bool.{Bool, true, cond, _||_}
+use mathlib.Core.Bool.{Bool, true, false, cond, _||_}
 use Prim.Native.Nat.{ℕ}
 use lib.Dec.{eqb}
+use lib.ListN.{replicate}
 use mir.Val.{ofZ}
 use mir.Syntax.{w16, w32}
 use Rattle.format.specs.Bytes.{bitOf}
 use Rattle.dem.specs.Kind
+use Rattle.dem.specs.Limits.{entityCount}
 use Rattle.format.specs.Layout.{Value, number, numbers, firstNumber}
 use Rattle.dem.specs.Scene.{PlayerLine as Line, Scene as Described, baselineAt}
 use Rattle.dem.specs.Message.{isUpdate}
@@ -65,13 +67,37 @@ recordNumbers r = numbers (recordValues r)
 abbrev pub lineOf : PlayerLine → Line
 lineOf p = record { frags = ofZ w16 (p .frags); colours = p .colours }
 
--- The scene of these tables and this rest.
-unfoldable pub sceneWith : List (List ℕ) → List (List ℕ) → List Bool → Rest → Described
-sceneWith baselines records present x =
+-- The tables of entities as the definitions see them, with the number of marks.
+pub record Tables : Type 0 where
+  pub baselines : List (List ℕ)
+  pub records : List (List ℕ)
+  pub present : List Bool
+  pub presentCount : ℕ
+
+abbrev pub noTables : Tables
+noTables = record { baselines = []; records = []; present = []; presentCount = 0 }
+
+-- With no mark set.
+abbrev pub unmarked : Tables → Tables
+unmarked t = record { baselines = t .baselines; records = t .records; present = replicate entityCount false; presentCount = 0 }
+
+abbrev pub tablesOf : Scene → Tables
+tablesOf s =
     record {
-      baselines = baselines;
-      records = records;
-      present = present;
+      baselines = map baselineNumbers (s .baselines);
+      records = map recordNumbers (s .records);
+      present = s .present;
+      presentCount = s .«present_count»;
+    }
+
+-- The scene of these tables and this rest.
+unfoldable pub sceneWith : Tables → Rest → Described
+sceneWith t x =
+    record {
+      baselines = t .baselines;
+      records = t .records;
+      present = t .present;
+      presentCount = t .presentCount;
       stats = map (ofZ w32) (x .stats);
       client = numbers (clientValues (x .client));
       view = x .view .0;
@@ -84,15 +110,16 @@ sceneWith baselines records present x =
     }
 
 abbrev pub sceneOf : Scene → Described
-sceneOf s = sceneWith (map baselineNumbers (s .baselines)) (map recordNumbers (s .records)) (s .present) (s .rest)
+sceneOf s = sceneWith (tablesOf s) (s .rest)
 
 -- A scene with other tables.
-abbrev pub withTables : List (List ℕ) → List (List ℕ) → List Bool → Described → Described
-withTables baselines records present s =
+abbrev pub withTables : Tables → Described → Described
+withTables t s =
     record {
-      baselines = baselines;
-      records = records;
-      present = present;
+      baselines = t .baselines;
+      records = t .records;
+      present = t .present;
+      presentCount = t .presentCount;
       stats = s .stats;
       client = s .client;
       view = s .view;
@@ -110,6 +137,7 @@ withStats stats s =
       baselines = s .baselines;
       records = s .records;
       present = s .present;
+      presentCount = s .presentCount;
       stats = stats;
       client = s .client;
       view = s .view;

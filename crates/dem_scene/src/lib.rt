@@ -1,9 +1,9 @@
 // The scene: what all messages so far lead to.
 ghost use mathlib.Core.Path.{_≡_};
 ghost use mathlib.Core.List.{List, [], _∷_, map};
-ghost use mathlib.Core.Bool.{Bool, false, cond};
-ghost use Prim.Native.Nat.{ℕ, _<_};
-ghost use lib.ListN.{take, drop, replicate};
+ghost use mathlib.Core.Bool.{true, cond};
+ghost use Prim.Native.Nat.{ℕ, _≤_, _<_};
+ghost use lib.ListN.{take, drop};
 ghost use mir.Syntax.{w16, w32};
 ghost use mir.Val.{ofZ};
 ghost use Rattle.dem.specs.Kind;
@@ -11,13 +11,13 @@ ghost use Rattle.dem.specs.Limits.{entityCount, statCount};
 ghost use Rattle.format.specs.Bytes.{bit};
 ghost use Rattle.format.specs.Layout.{Value, number, numbers, tail};
 ghost use Rattle.format.specs.Masked.{fillSlots};
-ghost use Rattle.dem.specs.Scene.{Scene as Described, zeroClientdata, cleared, contextOf, inRange};
+ghost use Rattle.dem.specs.Scene.{Scene as Described, zeroClientdata, cleared, contextOf, countMarks, inRange};
 ghost use Rattle.dem_parts.specs.Kinds.{contextOf as numbersOf};
 ghost use Rattle.dem.specs.Message.{apply, raise, clientStats, fill, updateSlots, clientSlots, fillUpdate, fillClient, fillSound};
 ghost use Rattle.wire.specs.declared.Text.{Text};
 ghost use Rattle.dem_types.specs.declared.Message.{Message};
 ghost use Rattle.dem_types.specs.Values.{valuesBy, valuesOf, lookValues, poseValues, motionValues, armsValues, soundValues, updateValues, clientValues as sentClientValues};
-ghost use Rattle.dem_scene.specs.Views.{Numbered, BaselineOf, filledBy, sceneOf, sceneWith, withTables, withStats, baselineNumbers, recordValues, clientValues, filledSoundValues};
+ghost use Rattle.dem_scene.specs.Views.{Numbered, BaselineOf, filledBy, Tables, noTables, unmarked, sceneOf, sceneWith, withTables, withStats, baselineNumbers, recordValues, clientValues, filledSoundValues};
 use dem::clientdata;
 use dem::limit::DEFAULT_ATTENUATION;
 use dem::limit::DEFAULT_VIEW_HEIGHT;
@@ -108,6 +108,7 @@ pub struct Scene {
     pub baselines: [Baseline; ENTITY_COUNT],
     pub records: [Record; ENTITY_COUNT],
     pub present: [bool; ENTITY_COUNT],
+    pub present_count: u16,
     pub rest: Rest,
 }
 
@@ -144,6 +145,7 @@ pub fn cleared_scene(limit: u8) -> Scene
         baselines,
         records,
         present,
+        present_count: 0,
         rest,
     }
 }
@@ -186,7 +188,7 @@ fn cleared_client() -> Client
 }
 
 fn cleared_rest(limit: u8) -> Rest
-    ensures { λ r. ⌜ ((b e : List (List ℕ)) (p : List Bool) → sceneWith b e p r ≡ withTables b e p (cleared limit)) ⌝ }
+    ensures { λ r. ⌜ ((t : Tables) → sceneWith t r ≡ withTables t (cleared limit)) ⌝ }
 {
     let stats = [0i32; STAT_COUNT];
     let client = cleared_client();
@@ -209,10 +211,27 @@ fn cleared_rest(limit: u8) -> Rest
     }
 }
 
-// Whether a scene with this rest is in range.
-pub fn in_range(x: Rest) -> bool
-    ensures { λ r. ⌜ ((b e : List (List ℕ)) (p : List Bool) → r ≡ inRange (sceneWith b e p x)) ⌝ }
+fn count_marks(present: [bool; ENTITY_COUNT]) -> u16
+    ensures { λ r. ⌜ r ≡ countMarks present ⌝ }
+    ensures bound { λ r. ⌜ r ≤ entityCount ⌝ }
 {
+    let mut count: u16 = 0;
+    let mut i: usize = 0;
+    while i < ENTITY_COUNT {
+        count += present[i] as u16;
+        i += 1;
+    }
+    count
+}
+
+// Whether a scene with these marks, this number of them and this rest is in range.
+pub fn in_range(present: [bool; ENTITY_COUNT], count: u16, x: Rest) -> bool
+    ensures { λ r. ⌜ ((t : Tables) → t .present ≡ present → t .presentCount ≡ count → r ≡ inRange (sceneWith t x)) ⌝ }
+    ensures bound { λ r. ⌜ (r ≡ true → count ≤ entityCount) ⌝ }
+{
+    if count != count_marks(present) {
+        return false;
+    }
     let view = x.view;
     if ENTITY_BOUND <= view.0 {
         return false;
@@ -232,7 +251,7 @@ pub fn in_range(x: Rest) -> bool
 
 // The numbers of a scene that the layouts of messages depend on.
 pub fn context(x: Rest) -> Context
-    ensures { λ r. ⌜ ((b e : List (List ℕ)) (p : List Bool) → numbersOf r ≡ contextOf (sceneWith b e p x)) ⌝ }
+    ensures { λ r. ⌜ ((t : Tables) → numbersOf r ≡ contextOf (sceneWith t x)) ⌝ }
 {
     let time = x.time;
     Context {
@@ -432,7 +451,7 @@ pub fn fill_message(m: Message, b: Baseline) -> Filled
 // ---- what messages do to the rest
 
 fn with_stat(x: Rest, i: u8, v: i32) -> Rest
-    ensures { λ r. ⌜ ((b e : List (List ℕ)) (p : List Bool) → sceneWith b e p r ≡ apply (sceneWith b e p x) (number Kind.stat ∷ number i ∷ number (ofZ w32 v) ∷ [])) ⌝ }
+    ensures { λ r. ⌜ ((t : Tables) → sceneWith t r ≡ apply (sceneWith t x) (number Kind.stat ∷ number i ∷ number (ofZ w32 v) ∷ [])) ⌝ }
 {
     let mut y = x;
     let at = i as usize;
@@ -445,7 +464,7 @@ fn with_stat(x: Rest, i: u8, v: i32) -> Rest
 // One more, from the highest to the lowest.
 fn raised(x: Rest, i: usize) -> Rest
     requires { ⌜ i < statCount ⌝ }
-    ensures { λ r. ⌜ ((b e : List (List ℕ)) (p : List Bool) → sceneWith b e p r ≡ withStats (raise (map (ofZ w32) (x .stats)) i) (sceneWith b e p x)) ⌝ }
+    ensures { λ r. ⌜ ((t : Tables) → sceneWith t r ≡ withStats (raise (map (ofZ w32) (x .stats)) i) (sceneWith t x)) ⌝ }
 {
     let mut y = x;
     let v = x.stats[i];
@@ -458,7 +477,7 @@ fn raised(x: Rest, i: usize) -> Rest
 }
 
 fn with_frags(x: Rest, p: Player, v: i16) -> Rest
-    ensures { λ r. ⌜ ((b e : List (List ℕ)) (m : List Bool) → sceneWith b e m r ≡ apply (sceneWith b e m x) (number Kind.frags ∷ number (p .0) ∷ number (ofZ w16 v) ∷ [])) ⌝ }
+    ensures { λ r. ⌜ ((t : Tables) → sceneWith t r ≡ apply (sceneWith t x) (number Kind.frags ∷ number (p .0) ∷ number (ofZ w16 v) ∷ [])) ⌝ }
 {
     let mut y = x;
     let at = p.0 as usize;
@@ -474,7 +493,7 @@ fn with_frags(x: Rest, p: Player, v: i16) -> Rest
 }
 
 fn with_colours(x: Rest, p: Player, v: u8) -> Rest
-    ensures { λ r. ⌜ ((b e : List (List ℕ)) (m : List Bool) → sceneWith b e m r ≡ apply (sceneWith b e m x) (number Kind.colours ∷ number (p .0) ∷ number v ∷ [])) ⌝ }
+    ensures { λ r. ⌜ ((t : Tables) → sceneWith t r ≡ apply (sceneWith t x) (number Kind.colours ∷ number (p .0) ∷ number v ∷ [])) ⌝ }
 {
     let mut y = x;
     let at = p.0 as usize;
@@ -510,7 +529,7 @@ fn client_stats(stats: [i32; STAT_COUNT], c: Client) -> [i32; STAT_COUNT]
 }
 
 pub fn with_client(x: Rest, c: Client) -> Rest
-    ensures { λ r. ⌜ ((b e : List (List ℕ)) (p : List Bool) → sceneWith b e p r ≡ apply (sceneWith b e p x) (number Kind.clientdata ∷ clientValues c)) ⌝ }
+    ensures { λ r. ⌜ ((t : Tables) → sceneWith t r ≡ apply (sceneWith t x) (number Kind.clientdata ∷ clientValues c)) ⌝ }
 {
     let mut y = x;
     let before = x.stats;
@@ -522,7 +541,7 @@ pub fn with_client(x: Rest, c: Client) -> Rest
 
 // After a time, which also clears the marks.
 pub fn with_time(x: Rest, bits: u32) -> Rest
-    ensures { λ r. ⌜ ((b e : List (List ℕ)) (p : List Bool) → sceneWith b e (replicate entityCount false) r ≡ apply (sceneWith b e p x) (number Kind.time ∷ number bits ∷ [])) ⌝ }
+    ensures { λ r. ⌜ ((t : Tables) → sceneWith (unmarked t) r ≡ apply (sceneWith t x) (number Kind.time ∷ number bits ∷ [])) ⌝ }
 {
     let stats = x.stats;
     let client = x.client;
@@ -544,7 +563,7 @@ pub fn with_time(x: Rest, bits: u32) -> Rest
 // After any message, whose strings are places in a text. An update and a baseline change the tables only.
 pub fn apply_rest(x: Rest, m: Message, text: &[u8]) -> Rest
     requires { ⌜ x .statics < 255 ⌝ }
-    ensures { λ r. ⌜ ((b e : List (List ℕ)) (p : List Bool) → Numbered m → sceneWith [] [] [] r ≡ withTables [] [] [] (apply (sceneWith b e p x) (fill (sceneWith b e p x) (valuesOf (now (text .entry)) m)))) ⌝ }
+    ensures { λ r. ⌜ ((t : Tables) → Numbered m → sceneWith noTables r ≡ withTables noTables (apply (sceneWith t x) (fill (sceneWith t x) (valuesOf (now (text .entry)) m)))) ⌝ }
 {
     let mut y = x;
     match m {

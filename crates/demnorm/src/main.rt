@@ -1,12 +1,10 @@
 // Writes the normal form of the recording on standard input to standard output. On a refusal one line on standard error tells its number and
 // place, and what was written stays. Memory is two arrays, whatever the input's length.
-mod buffer;
-
 ghost use mathlib.Core.Path.{_≡_};
 ghost use Prim.Native.Nat.{_≤_};
 ghost use lib.ListN.{length};
 ghost use Rattle.report.specs.Lines.{lineRoom};
-use buffer::Filled;
+use input_pieces::Filled;
 use libc::STDERR_FILENO;
 use libc::STDOUT_FILENO;
 use report::LINE_ROOM;
@@ -85,7 +83,7 @@ fn write_blocks(input: &mut [u8], output: &mut [u8], filled: Filled, from: usize
         scene = piece.scene;
         before = dem_stream::place_behind(before, used);
         let left = dem_stream::move_front(input, start + used, len);
-        let more = buffer::fill(input, left);
+        let more = input_pieces::fill(input, left);
         if more.failed {
             complain_of_input();
             return;
@@ -99,7 +97,7 @@ fn write_blocks(input: &mut [u8], output: &mut [u8], filled: Filled, from: usize
 }
 
 fn write_all(input: &mut [u8], output: &mut [u8]) {
-    let filled = buffer::fill(input, 0);
+    let filled = input_pieces::fill(input, 0);
     if filled.failed {
         complain_of_input();
         return;

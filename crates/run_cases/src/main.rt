@@ -4,6 +4,7 @@
 // A scene and seventeen player lines go from line to line. scripts/compare-cases has the second reader answer the same lines.
 //
 //   s  all messages of the bytes, in the scene at the start     o  the scene out of its ranges, with 129 statics
+//   c  the scene with the number of present marks that the first two bytes say, whatever its marks are
 //   e  the baseline and the record of the entity that the first two bytes name
 //   m  the message at the place, written back into room of the length
 //   n  the normal form of the message at the place, into room of the length; k of the block there; b of all blocks from there on

@@ -28,6 +28,15 @@ fn too_many_statics(scene: Scene) -> Scene {
     wrong
 }
 
+// With the number of present marks that two bytes say, whatever the marks are.
+fn with_present_count(scene: Scene, bytes: &[u8]) -> Scene {
+    let mut changed = scene;
+    if 2 <= bytes.len() {
+        changed.present_count = word(bytes[0], bytes[1]);
+    }
+    changed
+}
+
 pub fn shown(room: &[u8]) {
     run_show::say(b": ");
     run_show::hex(room, room.len());
@@ -149,6 +158,7 @@ pub fn ask(scene: Scene, letter: u8, place: usize, bytes: &[u8], room: &mut [u8]
     match letter {
         b's' => all(bytes, dem_messages::start()),
         b'o' => too_many_statics(scene),
+        b'c' => with_present_count(scene, bytes),
         b'e' => entity(scene, bytes),
         b'm' => read(scene, bytes, place, room),
         b'n' => normal(scene, bytes, place, room),

@@ -20,18 +20,19 @@ use dem_scene::Record;
 use dem_scene::Rest;
 use dem_scene::Scene;
 
-fn single(rest: Rest) {
+fn single(rest: Rest, present_count: u16) {
     let view = rest.view;
     let latest = rest.time;
     numbers(b"  scene ended=", &[bit(rest.ended)]);
     time(latest);
     numbers(
-        b" limit= view= pause= statics=",
+        b" limit= view= pause= statics= present=",
         &[
             rest.limit as u64,
             view.0 as u64,
             rest.pause as u64,
             rest.statics as u64,
+            present_count as u64,
         ],
     );
 }
@@ -86,7 +87,7 @@ pub fn show(s: Scene) {
     let rest = s.rest;
     let values = rest.stats;
     let lines = rest.players;
-    single(rest);
+    single(rest, s.present_count);
     stats(values);
     players(lines);
     records(s);

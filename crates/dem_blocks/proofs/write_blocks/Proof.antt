@@ -15,7 +15,7 @@ use lib.Seq.{length-take-le, getD-take}
 use lib.Dec.{ltb}
 use borrow.Author.Tests.{leb-true, ltb-true, ltb-false, not-true}
 use mathlib.Core.Logic.{_≢_}
-use mathlib.Core.List.{List, [], _∷_, _++_}
+use mathlib.Core.List.{List, [], _∷_, _++_, map}
 use Rattle.format.specs.Bytes.{Bytes, Result, refused, leWrite, bit}
 use Rattle.dem.specs.Kind
 use Rattle.format.specs.Layout.{Value, number, print}
@@ -34,7 +34,7 @@ use Rattle.format.proofs.LayoutLaws.{and-true, both-false}
 use Rattle.format.proofs.ByteLaws.{bytes-of, take-bytes}
 use Rattle.dem.proofs.RangeLaws.{range→}
 use Rattle.dem_framing.proofs.HeadLaws.{block-ended}
-use Rattle.dem_scene.specs.Views.{sceneWith, sceneOf, baselineNumbers, recordValues, clientValues}
+use Rattle.dem_scene.specs.Views.{sceneWith, sceneOf, baselineNumbers, recordNumbers, recordValues, clientValues}
 use Rattle.dem_scene.specs.declared.Baseline.{Baseline}
 use Rattle.dem_scene.specs.declared.Record.{Record}
 use Rattle.dem_scene.specs.declared.Rest.{Rest}
@@ -52,7 +52,7 @@ use Rattle.dem_blocks.specs.Marks.{marked}
 use Rattle.dem_blocks.proofs.Marks.{Within, within-more, within-bits, marked-set, marked-none, marked-bits, Before, before-later, before-marked, before-timed}
 use Rattle.dem_blocks.proofs.SoFar.{and-false, far-begins, Grown, grown-kept, grown-behind}
 use Rattle.dem_blocks.proofs.Turns.{Moved, before-stop, head-refused, head-found, moved-less, moved-short, moved-range, block-length, put-block-there, put-length, closed, closed-short, closed-fits, inside, on-refused, on-moved, on-end, run-over, run-refused, run-opened}
-use Rattle.dem_blocks.proofs.Arms.{held, noBaseline, filled-moved, kept-form, ended-refused, kind-parsed, parsed-refused, update-parsed, update-known, update-moved, time-moved, ClientRead, client-read, kept-client, client-moved, sound-moved, passed-parsed, passed-moved, other-parsed, baseline-known, baseline-moved, serverinfo-moved, cleared-present, rest-moved}
+use Rattle.dem_blocks.proofs.Arms.{held, given-held, noBaseline, filled-moved, kept-form, ended-refused, kind-parsed, parsed-refused, update-parsed, update-known, update-moved, time-moved, ClientRead, client-read, kept-client, client-moved, sound-moved, passed-parsed, passed-moved, other-parsed, baseline-known, baseline-moved, serverinfo-moved, cleared-present, rest-moved}
 use Rattle.dem_blocks.proofs.write_blocks.Statement.{statement}
 use Rattle.dem_blocks.proofs.write_blocks.Tie as tie
 
@@ -717,7 +717,7 @@ timeAt c = at (c .before .before)
 
 time-parsed : (c : TimeRead) → Parsed (message (timeAt c)) (number 7 ∷ number (c .time-at .result .value) ∷ []) (c .time-at .result .cursor)
 time-parsed c =
-    kind-here (message (timeAt c)) 7 _ _ (c .time-at .result .cursor) (sym (c .before .match .keys2)) refl no-static-time (c .before .before .context .ensures _ _ _) (c .time-at .ensures)
+    kind-here (message (timeAt c)) 7 _ _ (c .time-at .result .cursor) (sym (c .before .match .keys2)) refl no-static-time (c .before .before .context .ensures _) (c .time-at .ensures)
 
 abbrev Timed : Type 0
 Timed = tie.After-with-time Inv-loop3 μ-loop3 Inv-loop4 μ-loop4 Inv-loop2 μ-loop2 Inv-loop μ-loop
@@ -797,7 +797,7 @@ pass-parsed : (c : Passing) → Parsed (message (passedAt c)) (number (passedKin
 pass-parsed c =
     let p = message (passedAt c) in
     passed-parsed (body (inBlock (passedAt c))) (p .at) (p .inside) (p .baselines) (p .records) (present p) (p .rest) (p .going) (passedKind c) (passes (c .before)) refl _
-    (c .before .before .before .before .before .context .ensures _ _ _) (passed-here c .values) (c .pass-message .result) (passed-here c .read)
+    (c .before .before .before .before .before .context .ensures _) (passed-here c .values) (c .pass-message .result) (passed-here c .read)
 
 pass-step : (c : tie.Then15 Inv-loop3 μ-loop3 Inv-loop4 μ-loop4 Inv-loop2 μ-loop2 Inv-loop μ-loop)
     → let p = message (passedAt (c .before)) in
@@ -820,7 +820,7 @@ abbrev otherPlace : (c : OtherRead) → Place (inBlock (otherAt c))
 otherPlace c = message (otherAt c)
 
 other-context : (c : OtherRead) → numbersOf (c .before .before .before .before .before .context .result) ≡ contextOf (scene (otherPlace c))
-other-context c = c .before .before .before .before .before .context .ensures _ _ _
+other-context c = c .before .before .before .before .before .context .ensures _
 
 other-read : (c : OtherRead) → Parsed (otherPlace c) (valuesOf (body (inBlock (otherAt c))) (c .read-message .result .message)) (c .read-message .result .cursor)
 other-read c =
@@ -897,7 +897,7 @@ serverinfo-read c =
     let t = clearing c .cleared-scene .result in
     serverinfo-moved (body (inBlock (otherAt r))) (k .at) (k .inside) (k .baselines) (k .records) (present k) (k .rest) (k .going) (body-bytes (inBlock (otherAt r))) _ (other-context r) (r .read-message .result .message) (r .read-message .result .cursor)
     (r .read-message .ensures) (f .if16 .taken) (λ z. matched r .match .rest .0 .0 .1 (sym z)) (λ z. matched r .match .rest .1 (sym z)) (r .before .before .before .if13 .taken) _ _ (clearing c .before .before .message2 .given .1)
-    (cleared-present (t .baselines) (t .records) (t .present) (t .rest) _ (clearing c .cleared-scene .ensures))
+    (cleared-present t _ (clearing c .cleared-scene .ensures))
 
 -- The messages but serverinfo and baseline, by their places in the list of messages.
 abbrev neither : List ℕ
@@ -1181,13 +1181,15 @@ loop-holds c =
     let given = a .given in
     let n : a .most ≡ a .most - 0 = omega arith in
     let r : a .room ≡ a .room - 0 = omega arith in
-    let same : held (given .baselines) (given .records) (given .present) (given .rest) ≡ held (given .baselines) (given .records) (marked 0 (g .result)) (given .rest) =
-    ap (λ (q : List Bool). held (given .baselines) (given .records) q (given .rest)) (sym (ap (marked 0) (g .ensures .0) ∙ marked-bits (given .present))) in (
+    let ranged = c .before .before .before .before .before .before .before .pre .1 in
+    let same : sceneOf given ≡ held (given .baselines) (given .records) (marked 0 (g .result)) (given .rest) =
+    given-held given ranged
+    ∙ ap (λ (q : List Bool). held (given .baselines) (given .records) q (given .rest)) (sym (ap (marked 0) (g .ensures .0) ∙ marked-bits (given .present))) in (
       refl,
       c .before .before .before .before .before .before .before .pre .0,
       omega arith,
       omega arith,
-      subst (λ (t : Scene). inRange t ≡ true) same (c .before .before .before .before .before .before .before .pre .1),
+      subst (λ (t : Scene). inRange t ≡ true) same ranged,
       omega arith,
       refl,
       refl,
@@ -1642,7 +1644,8 @@ returns-4 : tie.Need-returns-4 Inv-loop3 μ-loop3 Inv-loop4 μ-loop4 Inv-loop2 �
 returns-4 c =
     let k = c .before .before .before .loop in
     (λ i. record { told = c .answer .ensures .0 i; written = c .answer .ensures .1 i; room = k .out })
-    ∙ ap (λ (p : List Bool). record { told = record { scene = held (k .baselines) (k .records) p (k .rest); blocks = k .blocks; messages = k .messages; next = k .start; refusal = c .before .before .loop-test .refusal; place = k .start }; written = k .written; room = k .out }) (c .before .present-of .ensures)
+    ∙ ap₂ (λ (p : List Bool) (n : ℕ). record { told = record { scene = sceneWith (record { baselines = map baselineNumbers (k .baselines); records = map recordNumbers (k .records); present = p; presentCount = n }) (k .rest); blocks = k .blocks; messages = k .messages; next = k .start; refusal = c .before .before .loop-test .refusal; place = k .start }; written = k .written; room = k .out })
+    (c .before .present-of .ensures .0) (c .before .present-of .ensures .1)
     ∙ left-loop (c .before .before)
 
 pub write-blocks-spec : {M : Type 1} → statement M

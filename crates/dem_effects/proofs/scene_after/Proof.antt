@@ -1,16 +1,13 @@
 -- `dem_effects::scene_after` meets its contract: each arm changes the tables that its message names, and the rest by `apply_rest`.
 -- Assumes nothing.
 use mathlib.Core.Path.{_∙_}
-use mathlib.Core.Bool.{false}
 use borrow.Author.Tests.{leb-true}
-use lib.ListN.{replicate}
 use Rattle.dem.specs.Kind
-use Rattle.dem.specs.Limits.{entityCount}
 use Rattle.dem.specs.Message.{apply, fill}
 use Rattle.wire.specs.Cursors.{placed}
 use Rattle.dem_types.specs.Values.{valuesBy}
-use Rattle.dem_scene.specs.Views.{sceneWith, sceneOf}
-use Rattle.dem_effects.proofs.Tables.{matched, time-tables, others-tableless, tables-kept, rest-joined}
+use Rattle.dem_scene.specs.Views.{unmarked, sceneWith, sceneOf}
+use Rattle.dem_effects.proofs.Tables.{tablesIn, matched, time-tables, others-tableless, tables-kept, rest-joined}
 use borrow.Author.Needs.{needs}
 use Rattle.dem_effects.proofs.scene_after.Statement.{statement}
 use Rattle.dem_effects.proofs.scene_after.Tie as tie
@@ -68,8 +65,7 @@ returns-4 c n =
     let s = sceneOf (a .s) in
     let t = placed (a .text .now) in
     let k = time-tables s t (a .m) _ (c .before .before .enum-told .given .1) in
-    rest-joined (apply s (fill s (valuesBy t (a .m)))) (c .apply-rest .result) (s .baselines) (s .records) (replicate entityCount false)
-    (c .apply-rest .ensures (s .baselines) (s .records) (s .present) n) (k .0) (k .1) (k .2)
+    rest-joined (apply s (fill s (valuesBy t (a .m)))) (c .apply-rest .result) (unmarked (tablesIn s)) (c .apply-rest .ensures (tablesIn s) n) k
 
 returns-5 : tie.Need-returns-5
 unfolding sceneWith
@@ -78,8 +74,7 @@ returns-5 c n =
     let s = sceneOf (a .s) in
     let t = placed (a .text .now) in
     let k = tables-kept s t (a .m) (others-tableless (a .m) (c .before .before .match .keys5)) in
-    rest-joined (apply s (fill s (valuesBy t (a .m)))) (c .apply-rest2 .result) (s .baselines) (s .records) (s .present)
-    (c .apply-rest2 .ensures (s .baselines) (s .records) (s .present) n) (k .0) (k .1) (k .2)
+    rest-joined (apply s (fill s (valuesBy t (a .m)))) (c .apply-rest2 .result) (tablesIn s) (c .apply-rest2 .ensures (tablesIn s) n) k
 
 pub scene-after-spec : {M : Type 1} → statement M
 scene-after-spec =

@@ -8,9 +8,10 @@ use borrow.Author.Needs.{needs}
 use lib.ListN.{length}
 use Rattle.dem.specs.Limits.{entityCount}
 use Rattle.dem.specs.Message.{apply}
-use Rattle.dem_scene.specs.Views.{sceneWith, sceneOf, baselineNumbers, withTables}
+use Rattle.dem_scene.specs.Views.{sceneWith, sceneOf, baselineNumbers}
 use Rattle.dem_scene.proofs.Ranges.{length-of}
 use Rattle.dem_scene.proofs.Changes.{set-seen, set-past}
+use Rattle.dem_effects.proofs.Tables.{withBaselines}
 use Rattle.dem_effects.proofs.with_baseline.Statement.{statement}
 use Rattle.dem_effects.proofs.with_baseline.Tie as tie
 
@@ -29,7 +30,7 @@ returns c =
     let a = c .before .before .args in
     let s = sceneOf (a .s) in
     rw (c .before .index-of .ensures)
-    (ap (λ (l : List (List ℕ)). withTables l (s .records) (s .present) s)
+    (ap (λ (l : List (List ℕ)). withBaselines l s)
     (set-seen baselineNumbers (a .s .baselines) (a .entity .0) (record { look = a .look; pose = a .pose }) _ refl))
 
 returns-2 : tie.Need-returns-2
@@ -38,7 +39,7 @@ returns-2 c =
     let a = c .before .before .args in
     let s = sceneOf (a .s) in
     let n : length (a .s .baselines) ≡ entityCount = length-of _ (a .s .baselines) entityCount (c .before .before .good .0 .1 .1 .0 .1 .0 .1) in
-    ap (λ (l : List (List ℕ)). withTables l (s .records) (s .present) s)
+    ap (λ (l : List (List ℕ)). withBaselines l s)
     (set-past baselineNumbers (a .s .baselines) (a .entity .0) _ (omega (arith, c .before .index-of .ensures)))
 
 pub with-baseline-spec : {M : Type 1} → statement M

@@ -27,7 +27,7 @@ unfolding sceneWith
 returns-2 c k brought lines e =
     let a = c .before .before .before .before .before .before .before .args in
     let bytes = bytes-of (a .bytes .now) (λ i. c .before .before .before .before .before .before .shared-slice-known .given i .fits) in
-    let rest = c .before .before .before .before .before .before .before .good .0 .1 .1 .1 .1 .1 .0 in
+    let rest = c .before .before .before .before .before .before .before .good .0 .1 .1 .1 .1 .1 .1 .0 in
     let own = length-of _ (a .scene .rest .players) 16 (rest .1 .1 .1 .1 .1 .1 .1 .1 .1 .1 .0 .1 .0 .1) in
     let read = c .before .before .read-message-at in
     told-lent (sceneOf (a .scene)) (a .bytes .now) bytes (a .at) (read .result) (read .ensures) (length-map (a .scene .rest .players) lineOf ∙ own) k brought (c .with-lines .result) (c .with-lines .ensures) lines (omega (arith, e))

@@ -1,18 +1,19 @@
 -- `dem_messages::write_message` meets its contract: the tests in document 01's order, then the bytes of its pieces.
 -- Assumes nothing.
-use mathlib.Core.Path.{_≡_, sym, ap, _∙_}
-use mathlib.Core.List.{map}
+use mathlib.Core.Path.{_≡_, refl, sym, ap, _∙_}
 use mathlib.Core.Bool.{true}
+use Prim.Native.Nat.{_≤_}
 use native.Mathlib.Omega.{arith}
 use borrow.Author.Needs.{needs}
 use borrow.Author.Tests.{not-true, not-false}
 use lib.ListN.{length}
 use Rattle.format.specs.Layout.{print, allows}
+use Rattle.dem.specs.Limits.{entityCount}
 use Rattle.dem.specs.Scene.{Context, contextOf, inRange}
 use Rattle.dem.specs.Message.{layout, layoutIn}
 use Rattle.dem.proofs.RangeLaws.{range→}
 use Rattle.dem_types.specs.Values.{valuesBy}
-use Rattle.dem_scene.specs.Views.{sceneWith, sceneOf, baselineNumbers, recordNumbers}
+use Rattle.dem_scene.specs.Views.{sceneWith, sceneOf, tablesOf}
 use Rattle.dem_writer.specs.Bytes.{piecesBytes}
 use Rattle.dem_writer.proofs.SizeLaws.{message-size}
 use Rattle.wire.specs.Cursors.{placed}
@@ -22,30 +23,33 @@ use Rattle.dem_messages.proofs.write_message.Tie as tie
 
 -- ---- what was tested
 
--- What the range test answers, whatever the tables hold.
-ranged : (c : tie.After-in-range) → inRange (sceneOf (c .before .before .before .before .args .scene)) ≡ c .in-range .result
+-- What the range test answers.
+ranged : (c : tie.After-in-range) → inRange (sceneOf (c .before .before .before .before .before .args .scene)) ≡ c .in-range .result
 ranged c =
-    let x = c .before .before .before .before .args .scene in
-    sym (c .in-range .ensures (map baselineNumbers (x .baselines)) (map recordNumbers (x .records)) (x .present))
+    let x = c .before .before .before .before .before .args .scene in
+    sym (c .in-range .ensures .0 (tablesOf x) refl refl)
 
-in-range′ : (c : tie.Else1) → inRange (sceneOf (c .before .before .before .before .before .args .scene)) ≡ true
+in-range′ : (c : tie.Else1) → inRange (sceneOf (c .before .before .before .before .before .before .args .scene)) ≡ true
 in-range′ c = ranged (c .before) ∙ not-false _ (c .if1 .left)
 
-allowed : (c : tie.After-is-allowed) → allows (layoutIn (sceneOf (c .before .before .before .before .before .before .before .before .args .scene))) (valuesBy (placed (c .before .before .before .before .before .before .before .before .args .text .now)) (c .before .before .before .before .before .before .before .before .args .message)) ≡ c .is-allowed .result
-allowed c =
-    let x = c .before .before .before .before .before .before .before .before .args .scene in
-    sym (c .is-allowed .ensures
-    ∙ ap (λ (k : Context). allows (layout k) (valuesBy (placed (c .before .before .before .before .before .before .before .before .args .text .now)) (c .before .before .before .before .before .before .before .before .args .message)))
-    (c .before .context .ensures (map baselineNumbers (x .baselines)) (map recordNumbers (x .records)) (x .present)))
+few : (c : tie.Else1) → c .before .before .before .before .before .before .args .scene .«present_count» ≤ entityCount
+few c = c .before .in-range .ensures .1 (not-false _ (c .if1 .left))
 
-allowed′ : (c : tie.Else3) → allows (layoutIn (sceneOf (c .before .before .before .before .before .before .before .before .before .args .scene))) (valuesBy (placed (c .before .before .before .before .before .before .before .before .before .args .text .now)) (c .before .before .before .before .before .before .before .before .before .args .message)) ≡ true
+allowed : (c : tie.After-is-allowed) → allows (layoutIn (sceneOf (c .before .before .before .before .before .before .before .before .before .args .scene))) (valuesBy (placed (c .before .before .before .before .before .before .before .before .before .args .text .now)) (c .before .before .before .before .before .before .before .before .before .args .message)) ≡ c .is-allowed .result
+allowed c =
+    let x = c .before .before .before .before .before .before .before .before .before .args .scene in
+    sym (c .is-allowed .ensures
+    ∙ ap (λ (k : Context). allows (layout k) (valuesBy (placed (c .before .before .before .before .before .before .before .before .before .args .text .now)) (c .before .before .before .before .before .before .before .before .before .args .message)))
+    (c .before .context .ensures (tablesOf x)))
+
+allowed′ : (c : tie.Else3) → allows (layoutIn (sceneOf (c .before .before .before .before .before .before .before .before .before .before .args .scene))) (valuesBy (placed (c .before .before .before .before .before .before .before .before .before .before .args .text .now)) (c .before .before .before .before .before .before .before .before .before .before .args .message)) ≡ true
 allowed′ c = allowed (c .before) ∙ not-false _ (c .if3 .left)
 
 -- The pieces' bytes are the message's.
-printed : (c : tie.After-pieces-of) → piecesBytes (c .before .before .before .before .before .before .before .before .before .before .args .text .now) (c .pieces-of .result) ≡ print (layoutIn (sceneOf (c .before .before .before .before .before .before .before .before .before .before .args .scene))) (valuesBy (placed (c .before .before .before .before .before .before .before .before .before .before .args .text .now)) (c .before .before .before .before .before .before .before .before .before .before .args .message))
+printed : (c : tie.After-pieces-of) → piecesBytes (c .before .before .before .before .before .before .before .before .before .before .before .args .text .now) (c .pieces-of .result) ≡ print (layoutIn (sceneOf (c .before .before .before .before .before .before .before .before .before .before .before .args .scene))) (valuesBy (placed (c .before .before .before .before .before .before .before .before .before .before .before .args .text .now)) (c .before .before .before .before .before .before .before .before .before .before .before .args .message))
 printed c =
-    let t = c .before .before .before .before .before .before .before .before .before .before .args .text .now in
-    c .pieces-of .ensures (contextOf (sceneOf (c .before .before .before .before .before .before .before .before .before .before .args .scene))) t (placed t) (placed-texts t) (allowed′ (c .before))
+    let t = c .before .before .before .before .before .before .before .before .before .before .before .args .text .now in
+    c .pieces-of .ensures (contextOf (sceneOf (c .before .before .before .before .before .before .before .before .before .before .before .args .scene))) t (placed t) (placed-texts t) (allowed′ (c .before))
 
 -- ---- the answers
 
@@ -53,11 +57,11 @@ in-range-requires : tie.Need-in-range-requires
 in-range-requires c κs = search needs
 
 returns : tie.Need-returns
-returns c = let a = c .before .before .before .before .before .args in sym (write-wrong (sceneOf (a .scene)) _ (a .room .now) (ranged (c .before) ∙ not-true _ (c .if1 .taken)))
+returns c = let a = c .before .before .before .before .before .before .args in sym (write-wrong (sceneOf (a .scene)) _ (a .room .now) (ranged (c .before) ∙ not-true _ (c .if1 .taken)))
 
 returns-2 : tie.Need-returns-2
 unfolding sceneWith
-returns-2 c = let a = c .before .before .before .before .before .before .args in sym (write-ended (sceneOf (a .scene)) _ (a .room .now) (in-range′ (c .before)) (c .if2 .taken))
+returns-2 c = let a = c .before .before .before .before .before .before .before .args in sym (write-ended (sceneOf (a .scene)) _ (a .room .now) (in-range′ (c .before)) (c .if2 .taken))
 
 context-requires : tie.Need-context-requires
 context-requires c κs = search needs
@@ -68,7 +72,7 @@ is-allowed-requires c κs = search needs
 returns-3 : tie.Need-returns-3
 unfolding sceneWith
 returns-3 c =
-    let a = c .before .before .before .before .before .before .before .before .before .args in
+    let a = c .before .before .before .before .before .before .before .before .before .before .args in
     sym (write-unreadable (sceneOf (a .scene)) _ (a .room .now) (in-range′ (c .before .before .before .before)) (c .before .before .before .if2 .left)
     (allowed (c .before) ∙ not-true _ (c .if3 .taken)))
 
@@ -76,12 +80,12 @@ pieces-of-requires : tie.Need-pieces-of-requires
 pieces-of-requires c κs = search needs
 
 size-of-requires : tie.Need-size-of-requires
-size-of-requires c κs = omega (arith, ap length (printed c), message-size (contextOf (sceneOf (c .before .before .before .before .before .before .before .before .before .before .args .scene))) _ (allowed′ (c .before)))
+size-of-requires c κs = omega (arith, ap length (printed c), message-size (contextOf (sceneOf (c .before .before .before .before .before .before .before .before .before .before .before .args .scene))) _ (allowed′ (c .before)))
 
 returns-4 : tie.Need-returns-4
 unfolding sceneWith
 returns-4 c =
-    let a = c .before .before .before .before .before .before .before .before .before .before .before .before .args in
+    let a = c .before .before .before .before .before .before .before .before .before .before .before .before .before .args in
     short-reply (sceneOf (a .scene)) _ (a .room .now) (in-range′ (c .before .before .before .before .before .before .before)) (c .before .before .before .before .before .before .if2 .left) (allowed′ (c .before .before .before))
     (c .before .size-of .ensures ∙ ap length (printed (c .before .before))) (c .if4 .taken)
 
@@ -90,7 +94,7 @@ put-pieces-requires c κs = omega (arith, c .before .before .size-of .ensures, c
 
 scene-after-requires : tie.Need-scene-after-requires
 unfolding sceneWith
-scene-after-requires c κs = omega (arith, range→ (sceneOf (c .before .before .before .before .before .before .before .before .before .before .before .before .before .before .before .before .args .scene)) (in-range′ (c .before .before .before .before .before .before .before .before .before .before .before)) .statics)
+scene-after-requires c κs = omega (arith, range→ (sceneOf (c .before .before .before .before .before .before .before .before .before .before .before .before .before .before .before .before .before .args .scene)) (in-range′ (c .before .before .before .before .before .before .before .before .before .before .before)) .statics, few (c .before .before .before .before .before .before .before .before .before .before .before))
 
 same-length : tie.Need-same-length
 same-length c = search needs
@@ -98,7 +102,7 @@ same-length c = search needs
 returns-5 : tie.Need-returns-5
 unfolding sceneWith
 returns-5 c =
-    let a = c .before .before .before .before .before .before .before .before .before .before .before .before .before .before .before .before .before .args in
+    let a = c .before .before .before .before .before .before .before .before .before .before .before .before .before .before .before .before .before .before .args in
     let t = sceneOf (a .scene) in
     let text = placed (a .text .now) in
     let yes = allowed′ (c .before .before .before .before .before .before .before .before) in

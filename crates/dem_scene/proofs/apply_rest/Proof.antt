@@ -8,7 +8,7 @@ use Rattle.format.specs.Layout.{number}
 use Rattle.dem.specs.Message.{apply, fill}
 use Rattle.wire.specs.Cursors.{placed}
 use Rattle.wire.proofs.SignedLaws.{same-bits}
-use Rattle.dem_scene.specs.Views.{sceneWith, withTables}
+use Rattle.dem_scene.specs.Views.{noTables, sceneWith, withTables}
 use Rattle.dem_scene.proofs.Applied.{after-match, after-call, quiet-after}
 use borrow.Author.Needs.{needs}
 use Rattle.dem_scene.proofs.apply_rest.Statement.{statement}
@@ -82,75 +82,75 @@ raised-requires-2 c κs = search needs
 
 returns : tie.Need-returns
 unfolding sceneWith apply fill
-returns c b e p n = after-match (c .before .before .before .args .x) b e p (placed (c .before .before .before .args .text .now)) _ _ (c .enum-told .given .1)
+returns c t n = after-match (c .before .before .before .args .x) t (placed (c .before .before .before .args .text .now)) _ _ (c .enum-told .given .1)
 
 returns-2 : tie.Need-returns-2
 unfolding sceneWith apply fill
-returns-2 c b e p n =
+returns-2 c t n =
     let m = c .before .before .m .given in
     let v = same-bits w32 (m .0 .1 .0) _ (record { sfits = c .before .known-told .given .1 .0 .1 }) refl in
-    after-call (c .before .before .before .before .before .args .x) b e p (placed (c .before .before .before .before .before .args .text .now)) (c .with-stat .result) _ _ _ (m .1) (c .with-stat .ensures b e p)
+    after-call (c .before .before .before .before .before .args .x) t (placed (c .before .before .before .before .before .args .text .now)) (c .with-stat .result) _ _ _ (m .1) (c .with-stat .ensures t)
     (λ i. number Kind.stat ∷ number (m .0 .0) ∷ number (v i) ∷ [])
 
 returns-3 : tie.Need-returns-3
 unfolding sceneWith apply fill
-returns-3 c b e p n = after-match (c .before .before .before .before .args .x) b e p (placed (c .before .before .before .before .args .text .now)) _ _ (c .before .m2 .given .1)
+returns-3 c t n = after-match (c .before .before .before .before .args .x) t (placed (c .before .before .before .before .args .text .now)) _ _ (c .before .m2 .given .1)
 
 returns-4 : tie.Need-returns-4
 unfolding sceneWith apply fill
-returns-4 c b e p n =
-    ap (withTables [] [] []) (c .with-time .ensures b e p)
-    ∙ after-match (c .before .before .before .before .before .args .x) b e p (placed (c .before .before .before .before .before .args .text .now)) _ _ (c .before .before .m3 .given .1)
+returns-4 c t n =
+    ap (withTables noTables) (c .with-time .ensures t)
+    ∙ after-match (c .before .before .before .before .before .args .x) t (placed (c .before .before .before .before .before .args .text .now)) _ _ (c .before .before .m3 .given .1)
 
 returns-5 : tie.Need-returns-5
 unfolding sceneWith apply fill
-returns-5 c b e p n =
-    ap (withTables [] [] []) (c .cleared-rest .ensures b e p)
-    ∙ after-match (c .before .before .before .before .before .args .x) b e p (placed (c .before .before .before .before .before .args .text .now)) _ _ (c .before .before .m4 .given .1)
+returns-5 c t n =
+    ap (withTables noTables) (c .cleared-rest .ensures t)
+    ∙ after-match (c .before .before .before .before .before .args .x) t (placed (c .before .before .before .before .before .args .text .now)) _ _ (c .before .before .m4 .given .1)
 
 returns-6 : tie.Need-returns-6
 unfolding sceneWith apply fill
-returns-6 c b e p n =
+returns-6 c t n =
     let m = c .before .before .m5 .given in
     let v = same-bits w16 (m .0 .1 .0) _ (record { sfits = c .before .known-told5 .given .1 .0 .1 }) refl in
-    after-call (c .before .before .before .before .before .args .x) b e p (placed (c .before .before .before .before .before .args .text .now)) (c .with-frags .result) _ _ _ (m .1) (c .with-frags .ensures b e p)
+    after-call (c .before .before .before .before .before .args .x) t (placed (c .before .before .before .before .before .args .text .now)) (c .with-frags .result) _ _ _ (m .1) (c .with-frags .ensures t)
     (λ i. number Kind.frags ∷ number (m .0 .0 .0) ∷ number (v i) ∷ [])
 
 returns-7 : tie.Need-returns-7
 unfolding sceneWith apply fill
-returns-7 c b e p n =
-    after-call (c .before .before .before .before .before .before .args .x) b e p (placed (c .before .before .before .before .before .before .args .text .now)) (c .with-client .result) _ _ _ (c .before .before .before .m6 .given .1) (c .with-client .ensures b e p)
+returns-7 c t n =
+    after-call (c .before .before .before .before .before .before .args .x) t (placed (c .before .before .before .before .before .before .args .text .now)) (c .with-client .result) _ _ _ (c .before .before .before .m6 .given .1) (c .with-client .ensures t)
     (c .before .fill-client .ensures)
 
 returns-8 : tie.Need-returns-8
 unfolding sceneWith apply fill
-returns-8 c b e p n =
-    after-call (c .before .before .before .before .before .args .x) b e p (placed (c .before .before .before .before .before .args .text .now)) (c .with-colours .result) _ _ _ (c .before .before .m7 .given .1) (c .with-colours .ensures b e p) refl
+returns-8 c t n =
+    after-call (c .before .before .before .before .before .args .x) t (placed (c .before .before .before .before .before .args .text .now)) (c .with-colours .result) _ _ _ (c .before .before .m7 .given .1) (c .with-colours .ensures t) refl
 
 returns-9 : tie.Need-returns-9
 unfolding sceneWith apply fill
-returns-9 c b e p n = after-match (c .before .before .before .before .args .x) b e p (placed (c .before .before .before .before .args .text .now)) _ _ (c .before .enum-told2 .given .1)
+returns-9 c t n = after-match (c .before .before .before .before .args .x) t (placed (c .before .before .before .before .args .text .now)) _ _ (c .before .enum-told2 .given .1)
 
 returns-10 : tie.Need-returns-10
 unfolding sceneWith apply fill
-returns-10 c b e p n = after-match (c .before .before .before .before .args .x) b e p (placed (c .before .before .before .before .args .text .now)) _ _ (c .before .m8 .given .1)
+returns-10 c t n = after-match (c .before .before .before .before .args .x) t (placed (c .before .before .before .before .args .text .now)) _ _ (c .before .m8 .given .1)
 
 returns-11 : tie.Need-returns-11
 unfolding sceneWith apply fill
-returns-11 c b e p n =
-    after-call (c .before .before .before .before .args .x) b e p (placed (c .before .before .before .before .args .text .now)) (c .raised .result) _ _ (number Kind.killed ∷ []) (c .before .enum-told3 .given .1)
-    (c .raised .ensures b e p) refl
+returns-11 c t n =
+    after-call (c .before .before .before .before .args .x) t (placed (c .before .before .before .before .args .text .now)) (c .raised .result) _ _ (number Kind.killed ∷ []) (c .before .enum-told3 .given .1)
+    (c .raised .ensures t) refl
 
 returns-12 : tie.Need-returns-12
 unfolding sceneWith apply fill
-returns-12 c b e p n =
-    after-call (c .before .before .before .before .args .x) b e p (placed (c .before .before .before .before .args .text .now)) (c .raised2 .result) _ _ (number Kind.secret ∷ []) (c .before .enum-told4 .given .1)
-    (c .raised2 .ensures b e p) refl
+returns-12 c t n =
+    after-call (c .before .before .before .before .args .x) t (placed (c .before .before .before .before .args .text .now)) (c .raised2 .result) _ _ (number Kind.secret ∷ []) (c .before .enum-told4 .given .1)
+    (c .raised2 .ensures t) refl
 
 returns-13 : tie.Need-returns-13
-returns-13 c b e p n =
+returns-13 c t n =
     let a = c .before .before .args in
-    quiet-after (a .x) (a .m) (c .match .keys13) b e p (placed (a .text .now)) n
+    quiet-after (a .x) (a .m) (c .match .keys13) t (placed (a .text .now)) n
 
 pub apply-rest-spec : {M : Type 1} → statement M
 apply-rest-spec =

@@ -13,8 +13,8 @@ cleared-client-requires c κs = search needs
 
 returns : tie.Need-returns
 unfolding sceneWith
-returns c b e p =
-    ap (λ k. withClient k (withTables b e p (cleared (c .before .args .limit)))) (c .cleared-client .ensures)
+returns c t =
+    ap (λ k. withClient k (withTables t (cleared (c .before .args .limit)))) (c .cleared-client .ensures)
 
 pub cleared-rest-spec : {M : Type 1} → statement M
 cleared-rest-spec = tie.close (tie.spec cleared-client-requires returns)

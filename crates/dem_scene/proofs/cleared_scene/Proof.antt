@@ -10,7 +10,7 @@ cleared-rest-requires c κs = search needs
 
 returns : tie.Need-returns
 unfolding sceneWith
-returns c = c .cleared-rest .ensures _ _ _
+returns c = c .cleared-rest .ensures _
 
 pub cleared-scene-spec : {M : Type 1} → statement M
 cleared-scene-spec = tie.close (tie.spec cleared-rest-requires returns)

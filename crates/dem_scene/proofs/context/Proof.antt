@@ -7,7 +7,7 @@ use Rattle.dem_scene.proofs.context.Tie as tie
 
 returns : tie.Need-returns
 unfolding sceneWith
-returns c b e p = refl
+returns c t = refl
 
 pub context-spec : {M : Type 1} → statement M
 context-spec = tie.close (tie.spec returns)

@@ -40,21 +40,21 @@ element-set-from-y c = search needs
 
 returns : tie.Need-returns
 unfolding sceneWith
-returns c b e p =
+returns c t =
     let x = c .before .before .args .t1 in
     let i = c .before .before .args .i in
-    ap (λ s. withStats s (sceneWith b e p x))
+    ap (λ s. withStats s (sceneWith t x))
     (set-seen (ofZ w32) (x .stats) i _ _ (ap (λ (n : ℕ). (n + 1) % 2 ^ 32) (sym (c .if1 .taken) ∙ seen-at (ofZ w32) (x .stats) i (pos 0))))
 
 returns-2 : tie.Need-returns-2
 unfolding sceneWith
-returns-2 c b e p =
+returns-2 c t =
     let x = c .before .before .args .t1 in
     let i = c .before .before .args .i in
     let z = getD (x .stats) i (pos 0) in
     let f : SFits w32 z = record { sfits = c .before .v .given } in
     let m : OneMore z = one-more z f (c .if1 .left) in
-    ap (λ s. withStats s (sceneWith b e p x))
+    ap (λ s. withStats s (sceneWith t x))
     (set-seen (ofZ w32) (x .stats) i _ _
     (rw (toZ-ofZ w32 z f) (same-bits w32 _ _ (m .fits) (m .bits ∙ ap (λ (n : ℕ). (n + 1) % 2 ^ 32) (seen-at (ofZ w32) (x .stats) i (pos 0))))))
 

@@ -15,9 +15,9 @@ client-stats-requires c κs = search needs
 
 returns : tie.Need-returns
 unfolding sceneWith apply
-returns c b e p =
+returns c t =
     let a = c .before .before .args in
-    ap (λ s. withStats s (apply (sceneWith b e p (a .x)) (number Kind.clientdata ∷ clientValues (a .c)))) (c .client-stats .ensures)
+    ap (λ s. withStats s (apply (sceneWith t (a .x)) (number Kind.clientdata ∷ clientValues (a .c)))) (c .client-stats .ensures)
 
 pub with-client-spec : {M : Type 1} → statement M
 with-client-spec = tie.close (tie.spec client-stats-requires returns)

@@ -32,21 +32,21 @@ element-set-from-changed c = search needs
 
 returns : tie.Need-returns
 unfolding sceneWith apply
-returns c b e m =
+returns c t =
     let x = c .before .before .before .before .args .t1 in
     let p = c .before .before .before .before .args .p .0 in
     let z = getD (x .players) p (record { frags = pos 0; colours = 0 }) .frags in
-    ap (λ l. withPlayers l (sceneWith b e m x))
+    ap (λ l. withPlayers l (sceneWith t x))
     (set-seen lineOf (x .players) p _ _
     (line-equal _ _ (same-bits w16 z _ (record { sfits = c .struct-told .given .0 .1 })
     (ap (λ (l : PlayerLine). l .frags) (seen-at lineOf (x .players) p (record { frags = pos 0; colours = 0 })))) refl))
 
 returns-2 : tie.Need-returns-2
 unfolding sceneWith apply
-returns-2 c b e m =
+returns-2 c t =
     let x = c .before .before .args .t1 in
     let n = length-of _ (x .players) 16 (c .before .before .good .0 .1 .1 .1 .1 .1 .1 .1 .1 .1 .1 .0 .1 .0 .1) in
-    ap (λ l. withPlayers l (sceneWith b e m x)) (set-past lineOf (x .players) (c .before .before .args .p .0) _ (omega (arith, n)))
+    ap (λ l. withPlayers l (sceneWith t x)) (set-past lineOf (x .players) (c .before .before .args .p .0) _ (omega (arith, n)))
 
 pub with-colours-spec : {M : Type 1} → statement M
 with-colours-spec =

@@ -31,21 +31,21 @@ element-set-from-changed c = search needs
 
 returns : tie.Need-returns
 unfolding sceneWith apply
-returns c b e m =
+returns c t =
     let x = c .before .before .before .args .t1 in
     let p = c .before .before .before .args .p .0 in
     let v = c .before .before .before .args .v in
-    ap (λ l. withPlayers l (sceneWith b e m x))
+    ap (λ l. withPlayers l (sceneWith t x))
     (set-seen lineOf (x .players) p _ _
     (line-equal _ _ (same-bits w16 v _ (record { sfits = c .before .before .before .good .1 .1 .0 }) refl)
     (ap (λ (l : PlayerLine). l .colours) (seen-at lineOf (x .players) p (record { frags = pos 0; colours = 0 })))))
 
 returns-2 : tie.Need-returns-2
 unfolding sceneWith apply
-returns-2 c b e m =
+returns-2 c t =
     let x = c .before .before .args .t1 in
     let n = length-of _ (x .players) 16 (c .before .before .good .0 .1 .1 .1 .1 .1 .1 .1 .1 .1 .1 .0 .1 .0 .1) in
-    ap (λ l. withPlayers l (sceneWith b e m x)) (set-past lineOf (x .players) (c .before .before .args .p .0) _ (omega (arith, n)))
+    ap (λ l. withPlayers l (sceneWith t x)) (set-past lineOf (x .players) (c .before .before .args .p .0) _ (omega (arith, n)))
 
 pub with-frags-spec : {M : Type 1} → statement M
 with-frags-spec =

@@ -21,18 +21,18 @@ element-set-from-v c = search needs
 
 returns : tie.Need-returns
 unfolding sceneWith apply
-returns c b e p =
+returns c t =
     let x = c .before .args .x in
     let v = c .before .args .v in
-    ap (λ s. withStats s (sceneWith b e p x))
+    ap (λ s. withStats s (sceneWith t x))
     (set-seen (ofZ w32) (x .stats) (c .before .args .i) _ _ (same-bits w32 v _ (record { sfits = c .before .good .1 .1 .0 }) refl))
 
 returns-2 : tie.Need-returns-2
 unfolding sceneWith apply
-returns-2 c b e p =
+returns-2 c t =
     let x = c .before .args .x in
     let n = length-of _ (x .stats) 32 (c .before .good .0 .1 .1 .0 .1 .0 .1) in
-    ap (λ s. withStats s (sceneWith b e p x)) (set-past (ofZ w32) (x .stats) (c .before .args .i) _ (omega (arith, n)))
+    ap (λ s. withStats s (sceneWith t x)) (set-past (ofZ w32) (x .stats) (c .before .args .i) _ (omega (arith, n)))
 
 pub with-stat-spec : {M : Type 1} → statement M
 with-stat-spec = tie.close (tie.spec mul-v element-set-from-v returns returns-2)

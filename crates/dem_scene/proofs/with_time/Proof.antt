@@ -8,7 +8,7 @@ use Rattle.dem_scene.proofs.with_time.Tie as tie
 
 returns : tie.Need-returns
 unfolding sceneWith apply
-returns c b e p = refl
+returns c t = refl
 
 pub with-time-spec : {M : Type 1} → statement M
 with-time-spec = tie.close (tie.spec returns)

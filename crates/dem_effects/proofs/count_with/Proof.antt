@@ -1,0 +1,20 @@
+-- `dem_effects::count_with` meets its contract.
+-- Assumes nothing.
+use mathlib.Core.Path.{sym, ap}
+use mathlib.Core.Bool.{Bool, cond}
+use Prim.Native.Nat.{_+_}
+use borrow.Author.Needs.{needs}
+use Rattle.dem_effects.proofs.count_with.Statement.{statement}
+use Rattle.dem_effects.proofs.count_with.Tie as tie
+
+add-result : tie.Need-add-result
+add-result c = search needs
+
+returns : tie.Need-returns
+returns c = search needs
+
+returns-2 : tie.Need-returns-2
+returns-2 c = let n = c .before .args .count in ap (λ (b : Bool). cond b n (n + 1)) (sym (c .if1 .left))
+
+pub count-with-spec : {M : Type 1} → statement M
+count-with-spec = tie.close (tie.spec add-result returns returns-2)

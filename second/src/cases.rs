@@ -2,7 +2,7 @@
 //! program that reads the same lines (`crates/run_cases/src/main.rt` has the letters).
 
 use crate::message::*;
-use crate::read::{read_block, read_message, read_track, Block, Step};
+use crate::read::{read_block, read_message, read_track, Block, Step, NO_SCENE};
 use crate::scene::{Player, Scene, ENTITIES, PLAYERS};
 use crate::text::{baseline_fields, record_fields, Fields};
 use crate::write::{normal_message, write_block, write_message, write_to_room};
@@ -383,7 +383,7 @@ impl State {
         count: usize,
     ) -> Result<Option<Step>, Refusal> {
         let lent: &mut [Player; PLAYERS] =
-            (&mut self.lines[..count]).try_into().map_err(|_| Refusal { number: 14, place: 0 })?;
+            (&mut self.lines[..count]).try_into().map_err(|_| NO_SCENE)?;
         let mut scene = Scene { players: *lent, ..self.scene.clone() };
         let answer = read_message(&scene, bytes, at)?;
         if let Some(step) = &answer {

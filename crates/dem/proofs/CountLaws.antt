@@ -34,7 +34,7 @@ count-set (mark ∷ marks) (suc i) = ap (λ (n : ℕ). bitOf mark + n) (count-se
     behind true n = refl
     behind false n = omega arith
 
--- A mark that is there, whatever is said of one that is not.
+-- Where there is a mark, the default does not matter.
 pub mark-there : (marks : List Bool) (i : ℕ) (d e : Bool) → i < length marks → getD marks i d ≡ getD marks i e
 mark-there (mark ∷ marks) zero d e h = refl
 mark-there (mark ∷ marks) (suc i) d e h = mark-there marks i d e (omega arith)

@@ -80,10 +80,10 @@ fn refused_in(
     WrittenAt { read, written }
 }
 
-// The present marks, and how many are set.
+// Which entities are present, and how many.
 struct Present {
-    marks: [bool; ENTITY_COUNT],
-    count: u16,
+    set: [bool; ENTITY_COUNT],
+    count: usize,
 }
 
 // Nothing was refused, or a block's head: the scene of these parts.
@@ -98,14 +98,14 @@ fn answer(
     refusal: u8,
     written: usize,
 ) -> WrittenAt
-    ensures { λ r. ⌜ answered (r .read) ≡ record { scene = sceneWith (record { baselines = map baselineNumbers baselines; records = map recordNumbers records; present = present .marks; presentCount = present .count }) rest; blocks = blocks; messages = messages; next = next; refusal = refusal; place = next } ⌝ }
+    ensures { λ r. ⌜ answered (r .read) ≡ record { scene = sceneWith (record { baselines = map baselineNumbers baselines; records = map recordNumbers records; present = present .set; presentCount = present .count }) rest; blocks = blocks; messages = messages; next = next; refusal = refusal; place = next } ⌝ }
     ensures bytes { λ r. ⌜ r .written ≡ written ⌝ }
 {
-    let marks = present.marks;
+    let set = present.set;
     let scene = Scene {
         baselines,
         records,
-        present: marks,
+        present: set,
         present_count: present.count,
         rest,
     };
@@ -214,20 +214,20 @@ fn marks_of(present: [bool; ENTITY_COUNT]) -> [usize; ENTITY_COUNT]
 }
 
 fn present_of(marks: [usize; ENTITY_COUNT], since: usize) -> Present
-    ensures { λ r. ⌜ r .marks ≡ marked since marks ⌝ }
+    ensures { λ r. ⌜ r .set ≡ marked since marks ⌝ }
     ensures count { λ r. ⌜ r .count ≡ countMarks (marked since marks) ⌝ }
 {
     let mut present = [false; ENTITY_COUNT];
-    let mut count: u16 = 0;
+    let mut count: usize = 0;
     let mut i: usize = 0;
     while i < ENTITY_COUNT {
         let mark = since < marks[i];
         present[i] = mark;
-        count += mark as u16;
+        count += mark as usize;
         i += 1;
     }
     Present {
-        marks: present,
+        set: present,
         count,
     }
 }

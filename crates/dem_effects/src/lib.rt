@@ -4,6 +4,7 @@ ghost use mathlib.Core.List.{List, [], _∷_, _++_};
 ghost use mathlib.Core.Bool.{cond};
 ghost use Prim.Native.Nat.{ℕ, _+_, _≤_, _<_};
 ghost use Rattle.dem.specs.Kind;
+ghost use Rattle.dem.specs.Limits.{entityCount};
 ghost use Rattle.format.specs.Layout.{Value, number};
 ghost use Rattle.dem.specs.Message.{apply, fill};
 ghost use Rattle.dem_types.specs.declared.Message.{Message};
@@ -59,16 +60,16 @@ fn with_baseline(s: Scene, entity: Entity, look: Look, pose: Pose) -> Scene
     y
 }
 
-// How many marks are set once one is that may have been.
-fn count_with(set: bool, count: u16) -> u16
-    requires { ⌜ count < 65535 ⌝ }
+// How many marks are set once this one is: one more, if it was not.
+fn count_with(set: bool, count: usize) -> usize
+    requires { ⌜ count ≤ entityCount ⌝ }
     ensures { λ r. ⌜ r ≡ cond set count (count + 1) ⌝ }
 {
     if set { count } else { count + 1 }
 }
 
 fn with_update(s: Scene, u: Update) -> Scene
-    requires { ⌜ s .«present_count» < 65535 ⌝ }
+    requires { ⌜ s .«present_count» ≤ entityCount ⌝ }
     ensures { λ r. ⌜ (Kind.update ≤ u .number → sceneOf r ≡ apply (sceneOf s) (fill (sceneOf s) (updateValues u))) ⌝ }
 {
     let entity = u.entity;
@@ -87,7 +88,7 @@ fn with_update(s: Scene, u: Update) -> Scene
 
 // The scene after a message, whose strings are places in a text.
 pub fn scene_after(s: Scene, m: Message, text: &[u8]) -> Scene
-    requires { ⌜ (s .rest .statics < 255) × (s .«present_count» < 65535) ⌝ }
+    requires { ⌜ (s .rest .statics < 255) × (s .«present_count» ≤ entityCount) ⌝ }
     ensures { λ r. ⌜ (Numbered m → sceneOf r ≡ apply (sceneOf s) (fill (sceneOf s) (valuesOf (now (text .entry)) m))) ⌝ }
 {
     match m {

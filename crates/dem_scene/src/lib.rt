@@ -91,7 +91,7 @@ pub struct PlayerLine {
     pub colours: u8,
 }
 
-// Every part of the scene but the tables of entities: small enough to go by value through functions.
+// Every part of the scene but the tables of entities and the number of marks: small enough to go by value through functions.
 pub struct Rest {
     pub stats: [i32; STAT_COUNT],
     pub client: Client,
@@ -108,7 +108,7 @@ pub struct Scene {
     pub baselines: [Baseline; ENTITY_COUNT],
     pub records: [Record; ENTITY_COUNT],
     pub present: [bool; ENTITY_COUNT],
-    pub present_count: u16,
+    pub present_count: usize,
     pub rest: Rest,
 }
 
@@ -211,21 +211,21 @@ fn cleared_rest(limit: u8) -> Rest
     }
 }
 
-fn count_marks(present: [bool; ENTITY_COUNT]) -> u16
+fn count_marks(present: [bool; ENTITY_COUNT]) -> usize
     ensures { λ r. ⌜ r ≡ countMarks present ⌝ }
     ensures bound { λ r. ⌜ r ≤ entityCount ⌝ }
 {
-    let mut count: u16 = 0;
+    let mut count: usize = 0;
     let mut i: usize = 0;
     while i < ENTITY_COUNT {
-        count += present[i] as u16;
+        count += present[i] as usize;
         i += 1;
     }
     count
 }
 
 // Whether a scene with these marks, this number of them and this rest is in range.
-pub fn in_range(present: [bool; ENTITY_COUNT], count: u16, x: Rest) -> bool
+pub fn in_range(present: [bool; ENTITY_COUNT], count: usize, x: Rest) -> bool
     ensures { λ r. ⌜ ((t : Tables) → t .present ≡ present → t .presentCount ≡ count → r ≡ inRange (sceneWith t x)) ⌝ }
     ensures bound { λ r. ⌜ (r ≡ true → count ≤ entityCount) ⌝ }
 {
@@ -560,7 +560,7 @@ pub fn with_time(x: Rest, bits: u32) -> Rest
     }
 }
 
-// After any message, whose strings are places in a text. An update and a baseline change the tables only.
+// After any message, whose strings are places in a text. An update and a baseline change no part of it.
 pub fn apply_rest(x: Rest, m: Message, text: &[u8]) -> Rest
     requires { ⌜ x .statics < 255 ⌝ }
     ensures { λ r. ⌜ ((t : Tables) → Numbered m → sceneWith noTables r ≡ withTables noTables (apply (sceneWith t x) (fill (sceneWith t x) (valuesOf (now (text .entry)) m)))) ⌝ }

@@ -132,7 +132,7 @@ fn players(out: &mut [u8], at: usize, values: [PlayerLine; PLAYER_COUNT]) -> usi
     end
 }
 
-fn numbers(out: &mut [u8], at: usize, rest: Rest, present_count: u16) -> usize {
+fn numbers(out: &mut [u8], at: usize, rest: Rest, present_count: usize) -> usize {
     let view = rest.view;
     form(
         out,
@@ -148,7 +148,7 @@ fn numbers(out: &mut [u8], at: usize, rest: Rest, present_count: u16) -> usize {
     )
 }
 
-fn rest_lines(out: &mut [u8], at: usize, rest: Rest, present_count: u16) -> usize {
+fn rest_lines(out: &mut [u8], at: usize, rest: Rest, present_count: usize) -> usize {
     let values = rest.stats;
     let c = rest.client;
     let mut end = form(out, at, b"\nended %", &[bit(rest.ended)]);

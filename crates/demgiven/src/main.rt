@@ -77,9 +77,15 @@ fn show(given: Given, asked: &[u8]) {
 }
 
 fn main() {
+    let read = recording::scene_after();
+    if read.failed {
+        io::write_all(STDERR_FILENO, b"demgiven: cannot read standard input\n");
+        return;
+    }
     let mut asked = [0u8; 8192];
+    let scene = read.scene;
     let start = Given {
-        scene: recording::scene_after(),
+        scene,
         count: 0,
         at: 0,
         wrong: false,

@@ -119,7 +119,7 @@ fn with_number(given: Given, part: Part, v: u64) -> Given {
         Part::Limit => rest.limit = byte(v),
         Part::Pause => rest.pause = byte(v),
         Part::View => rest.view = view,
-        Part::Present => scene.present_count = short(v),
+        Part::Present => scene.present_count = v as usize,
         Part::At => g.at = v as usize,
         Part::Nothing => {}
     }

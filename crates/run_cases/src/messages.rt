@@ -32,7 +32,7 @@ fn too_many_statics(scene: Scene) -> Scene {
 fn with_present_count(scene: Scene, bytes: &[u8]) -> Scene {
     let mut changed = scene;
     if 2 <= bytes.len() {
-        changed.present_count = word(bytes[0], bytes[1]);
+        changed.present_count = word(bytes[0], bytes[1]) as usize;
     }
     changed
 }

@@ -1,35 +1,21 @@
 // What an overlay shows: for each block of the recording on standard input its place, and how many entities are present after it. That
-// number comes with the scene that the block leaves; no mark is looked at.
+// number comes with the scene that the block leaves; the program looks at no mark.
 ghost use Prim.Native.Nat.{_≤_};
 ghost use lib.ListN.{length};
 use dem_recordings::BlockAnswer;
 use dem_recordings::TrackAnswer;
 use input_pieces::Filled;
 use libc::STDERR_FILENO;
-use libc::STDOUT_FILENO;
 
-fn say(text: &[u8]) {
-    io::write_all(STDOUT_FILENO, text);
-}
-
-fn number(n: u64) {
-    io::print_decimal(STDOUT_FILENO, n);
-}
-
-fn block_line(place: usize, present_count: u16) {
-    say(b"block ");
-    number(place as u64);
-    say(b" present ");
-    number(present_count as u64);
-    say(b"\n");
+fn block_line(place: usize, present_count: usize) {
+    run_show::count(b"block ", place);
+    run_show::count(b" present ", present_count);
+    run_show::say(b"\n");
 }
 
 fn refused(refusal: u8, place: usize) {
-    say(b"refused ");
-    number(refusal as u64);
-    say(b" at ");
-    number(place as u64);
-    say(b"\n");
+    run_show::refused(refusal, place);
+    run_show::say(b"\n");
 }
 
 fn complain() {
@@ -42,7 +28,7 @@ fn verdict(answer: BlockAnswer, before: usize) {
         BlockAnswer::Refused(refusal, place) => {
             refused(refusal, dem_stream::place_behind(before, place))
         }
-        _ => say(b"accepted\n"),
+        _ => run_show::say(b"accepted\n"),
     }
 }
 

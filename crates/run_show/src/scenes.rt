@@ -20,7 +20,7 @@ use dem_scene::Record;
 use dem_scene::Rest;
 use dem_scene::Scene;
 
-fn single(rest: Rest, present_count: u16) {
+fn single(rest: Rest, present_count: usize) {
     let view = rest.view;
     let latest = rest.time;
     numbers(b"  scene ended=", &[bit(rest.ended)]);

@@ -4,7 +4,7 @@
 use super::boundary::{blocks, own_update, server_info, time, tour, Cases};
 use super::{Expect, EDGES};
 use crate::message::Refusal;
-use crate::read::BLOCK_HEAD;
+use crate::read::{BLOCK_HEAD, BLOCK_SIZE};
 use crate::scene::{ENTITIES, MAX_ENTITY};
 
 /// The bytes of the track line that `blocks` writes.
@@ -45,6 +45,7 @@ impl Cases {
         self.other_messages();
         self.every_entity();
         self.widths_of_the_number();
+        self.around_an_array();
     }
 
     fn counted(&mut self, name: &str, good: &[Counted]) {
@@ -256,6 +257,24 @@ impl Cases {
                 |count: u16| if count < power { updates(0..count) } else { update(count - 1) };
             let all: Vec<Counted> = steps.iter().map(|count| (body(*count), *count)).collect();
             self.counted(&format!("around {power}"), &all);
+        }
+    }
+
+    /// Blocks that end around what a program may hold of its input at once.
+    fn around_an_array(&mut self) {
+        const ARRAY: usize = 65_536;
+        let longest = BLOCK_SIZE as usize;
+        let nop = |count: usize| vec![1; count];
+        for end in [ARRAY - 1, ARRAY, ARRAY + 1] {
+            let size = (end - TRACK_LINE) % (BLOCK_HEAD + longest) - BLOCK_HEAD;
+            let mut good = vec![(nop(longest), 0); (end - TRACK_LINE) / (BLOCK_HEAD + longest)];
+            good.push(([updates([5, 7]), nop(size - 4)].concat(), 2));
+            good.push(([update(9), nop(longest - 2)].concat(), 3));
+            self.counted(&format!("a block ends at {end}"), &good);
+            let refused = [update(11), vec![UNKNOWN]].concat();
+            self.counted_then(&format!("refused behind {end}"), &good, &refused, 6, 2);
+            good.pop();
+            self.counted_then(&format!("refused at {end}"), &good, &refused, 6, 2);
         }
     }
 }

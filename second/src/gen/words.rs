@@ -3,10 +3,10 @@
 //! First come lists that are written out, the same for every seed, about a few
 //! recordings. Then random lists about generated recordings take their turn.
 
-use super::boundary::{blocks, marked_recording, server_info, time, tour};
+use super::boundary::{self, blocks, marked_recording, server_info, time, tour};
 use super::present::updates;
 use super::rng::Rng;
-use super::{encode, reading, EDGES};
+use super::{encode, reading, Input, EDGES};
 use crate::given::MOST_ASKED;
 use crate::read::read_recording;
 use crate::scene::{Scene, ENTITIES, MAX_ENTITY, PLAYERS, STATICS};
@@ -16,6 +16,8 @@ const NO_BLOCKS: &[u8] = b"3\n";
 const ONE: u32 = 0x3F80_0000;
 /// So many recordings have all lists about them.
 const RECORDINGS: usize = 6;
+/// More bytes than most boundary cases have.
+const LONG: usize = 60_000;
 /// Random words are about the first so many generated recordings behind the boundary
 /// cases, and about these.
 const GENERATED: usize = 2000;
@@ -211,7 +213,7 @@ fn boundaries() -> &'static [Question] {
     static QUESTIONS: OnceLock<Vec<Question>> = OnceLock::new();
     QUESTIONS.get_or_init(|| {
         let lists = recordings().into_iter().flat_map(|(name, bytes)| about(name, &bytes, 1));
-        let others = [messages(), every_mark(), long_asks(), wrong_words()];
+        let others = [messages(), every_mark(), long_asks(), long_recordings(), wrong_words()];
         lists.chain(others.into_iter().flatten()).collect()
     })
 }
@@ -312,6 +314,13 @@ fn every_mark() -> Vec<Question> {
 }
 
 /// As many bytes as can be asked for, and one more; strings of 2,046 and 2,047.
+/// A few lists about each recording whose blocks end around what a program may hold at once.
+fn long_recordings() -> Vec<Question> {
+    let is_long = |input: &Input| input.name.starts_with("present: ") && input.bytes.len() > LONG;
+    let long = boundary::cases().into_iter().filter(is_long);
+    long.flat_map(|input| about(&input.name, &input.bytes, 20)).collect()
+}
+
 fn long_asks() -> Vec<Question> {
     let question = |name: &str, bytes: Vec<u8>, at: usize| Question {
         name: name.into(),

@@ -1,7 +1,8 @@
 #!/usr/bin/env python3
 """Brings the repository's own definitions and lemmas to today's spelling, once, behind port.py.
 
-usage: tools/spelling.py            at the top of the repository
+usage: tools/spelling.py            at the top of the repository, right behind port.py
+       tools/spelling.py --words    behind that: every word in camel case that is left, constructors and variables among them
 
 Words in camel case become snake case (readNumber: read_number); types, records and modules keep their capitals. In the name of a lemma a
 dash stays where it joins the name of a definition (bind-found) and is an underscore elsewhere (unless_met). Goals' names in proofs/F/ and
@@ -11,7 +12,7 @@ import os
 import re
 import sys
 
-WORD = re.compile(r"[^\W\d][\w'-]*")
+WORD = re.compile(r"(?<![\w'\\-])[^\W\d][\w'-]*")
 HEAD = re.compile(
     r"^[ ]*(?:(?:pub|abbrev|unfoldable)[ ]+)*((?:data|record)[ ]+)?([^\W\d][\w'-]*)[ ]*(?:[({][^:]*:[^:]*[)}][ ]*)*:(?!=)", re.M)
 SKIP = ("out", ".git", "target")
@@ -54,7 +55,33 @@ def turned(name, known):
     return text
 
 
+def words():
+    used, camel, edits = set(), set(), set()
+    lemmas = {m.group(2) for p in files(".antt") for m in HEAD.finditer(read(p))}
+    for p in files((".antt", ".rt", ".edit")):
+        text = re.sub(r"(--|//)[^\n]*", "", read(p))
+        found = set(WORD.findall(text))
+        in_camel = {w for w in found if re.fullmatch(r"[a-z][a-z0-9]*(?:[A-Z]+[a-z0-9]*)+", w)}
+        if p.endswith(".edit"):
+            edits |= in_camel
+        else:
+            used |= found
+            camel |= in_camel
+    table = {}
+    for w in sorted(camel):
+        new = snake(w).lower()
+        if new in used and new in lemmas:
+            table[new] = new + "_lem"
+            print(f"look: {new} is {new}_lem")
+        table[w] = new
+    # port.py turns no edit: what it turned elsewhere is turned there now
+    table.update((w, snake(w).lower()) for w in edits - camel if snake(w).lower() in used)
+    return table
+
+
 def main():
+    if sys.argv[1:] == ["--words"]:
+        return turn(words())
     defined, local = {}, set()
     for p in files(".antt"):
         for m in HEAD.finditer(read(p)):
@@ -87,6 +114,10 @@ def main():
     for n in sorted(table):
         if table[n] == n + "_lem":
             print(f"look: {n} is {table[n]}")
+    turn(table)
+
+
+def turn(table):
     for p in files((".antt", ".rt", ".edit", ".md")):
         text = read(p)
         if p.endswith(".md"):

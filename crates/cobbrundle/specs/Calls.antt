@@ -28,7 +28,7 @@ use Rattle.dem_recordings.specs.declared.TrackNormalAnswer.TheVariants as L
 
 -- How such calls came out.
 pub data Outcome : Type 0 where
-  toEnd toRefusal : Outcome
+  to_end to_refusal : Outcome
 
 -- ---- the messages of a block
 
@@ -47,8 +47,8 @@ pub record MessageCall : Type 0 where
 
 -- The calls from a scene and a place on, the scene that the last of them handed back, and how they came out.
 pub data MessageCalls (block : List ℕ) : Scene → ℕ → List MessageCall → Scene → Outcome → Type 0 where
-  no_message : {x y : Scene} {at : ℕ} → ReadsMessage x block at M.End y → MessageCalls block x at [] y toEnd
-  message_refused : {x y : Scene} {at n p : ℕ} → ReadsMessage x block at (M.Refused n p) y → MessageCalls block x at [] y toRefusal
+  no_message : {x y : Scene} {at : ℕ} → ReadsMessage x block at M.End y → MessageCalls block x at [] y to_end
+  message_refused : {x y : Scene} {at n p : ℕ} → ReadsMessage x block at (M.Refused n p) y → MessageCalls block x at [] y to_refusal
   next_message : {c : MessageCall} {cs : List MessageCall} {y : Scene} {o : Outcome}
       → ReadsMessage c.scene block c.place (M.Found c.message c.filled c.next) c.after
       → MessageCalls block c.after c.next cs y o → MessageCalls block c.scene c.place (c ∷ cs) y o
@@ -75,20 +75,20 @@ bytes_of s o = take (o.next - o.start) (drop o.start s)
 
 -- The calls from a scene and a place on: each block, and before the next one its messages, in the scene in front of it.
 pub data BlockCalls (s : List ℕ) : Scene → ℕ → List BlockCall → Scene → Outcome → Type 0 where
-  no_block : {x y : Scene} {at : ℕ} → ReadsBlock x s at B.End y → BlockCalls s x at [] y toEnd
-  block_refused : {x y : Scene} {at n p : ℕ} → ReadsBlock x s at (B.Refused n p) y → BlockCalls s x at [] y toRefusal
+  no_block : {x y : Scene} {at : ℕ} → ReadsBlock x s at B.End y → BlockCalls s x at [] y to_end
+  block_refused : {x y : Scene} {at n p : ℕ} → ReadsBlock x s at (B.Refused n p) y → BlockCalls s x at [] y to_refusal
   within_refused : {b : BlockCall} → ReadsBlock b.scene s b.place (B.Found b.outline) b.after
-      → MessageCalls (bytes_of s b.outline) b.scene 0 b.messages b.left toRefusal
-      → BlockCalls s b.scene b.place (b ∷ []) b.left toRefusal
+      → MessageCalls (bytes_of s b.outline) b.scene 0 b.messages b.left to_refusal
+      → BlockCalls s b.scene b.place (b ∷ []) b.left to_refusal
   next_block : {b : BlockCall} {bs : List BlockCall} {y : Scene} {o : Outcome}
       → ReadsBlock b.scene s b.place (B.Found b.outline) b.after
-      → MessageCalls (bytes_of s b.outline) b.scene 0 b.messages b.left toEnd → BlockCalls s b.after b.outline.next bs y o
+      → MessageCalls (bytes_of s b.outline) b.scene 0 b.messages b.left to_end → BlockCalls s b.after b.outline.next bs y o
       → BlockCalls s b.scene b.place (b ∷ bs) y o
 
 -- `read_track`, then `start` and the blocks from the place behind the track line on.
 pub data RecordingCalls (s : List ℕ) : TrackAnswer → List BlockCall → Scene → Outcome → Type 0 where
   track_refused : {n p : ℕ} {x : Scene} → track_answer_of (T.Refused n p) ≡ track_at s → scene_of x ≡ fresh
-      → RecordingCalls s (T.Refused n p) [] x toRefusal
+      → RecordingCalls s (T.Refused n p) [] x to_refusal
   behind_track : {n : ℤ} {next : ℕ} {x y : Scene} {bs : List BlockCall} {o : Outcome} → track_answer_of (T.Found n next) ≡ track_at s
       → scene_of x ≡ fresh → BlockCalls s x next bs y o → RecordingCalls s (T.Found n next) bs y o
 
@@ -110,8 +110,8 @@ block_out s b = block_of (outline_of b.outline).angles (map (message_out (bytes_
 
 -- Of a recording, if the calls came to its end.
 abbrev pub recording_out : List ℕ → TrackAnswer → List BlockCall → Outcome → Option Reading
-recording_out s (T.Found n next) bs toEnd = some (record { track = n; blocks = map (block_out s) bs })
-recording_out s (T.Found n next) bs toRefusal = none
+recording_out s (T.Found n next) bs to_end = some (record { track = n; blocks = map (block_out s) bs })
+recording_out s (T.Found n next) bs to_refusal = none
 recording_out s (T.Refused n p) bs o = none
 
 -- ---- what holds of each call
@@ -140,16 +140,16 @@ WritesBlock x s at room a y out = normal_reply_of (record { answer = a; scene = 
 -- The calls from a scene and a place on, each in the room behind what the one before wrote: the scene that the last of them handed back, how
 -- many bytes were written, what the room holds, and how they came out.
 pub data NormalCalls (s : List ℕ) : Scene → ℕ → List ℕ → Scene → ℕ → List ℕ → Outcome → Type 0 where
-  no_form : {x y : Scene} {at : ℕ} {room out : List ℕ} → WritesBlock x s at room N.End y out → NormalCalls s x at room y 0 out toEnd
+  no_form : {x y : Scene} {at : ℕ} {room out : List ℕ} → WritesBlock x s at room N.End y out → NormalCalls s x at room y 0 out to_end
   form_refused : {x y : Scene} {at n p : ℕ} {room out : List ℕ} → WritesBlock x s at room (N.Refused n p) y out
-      → NormalCalls s x at room y 0 out toRefusal
+      → NormalCalls s x at room y 0 out to_refusal
   next_form : {x y z : Scene} {at size next n : ℕ} {room mid out : List ℕ} {o : Outcome} → WritesBlock x s at room (N.Written size next) y mid
       → NormalCalls s y next (drop size mid) z n out o → NormalCalls s x at room z (size + n) (take size mid ++ out) o
 
 -- `normal_track`, then `start` and the blocks from the place behind the track line on.
 pub data NormalRecordingCalls (s room : List ℕ) : Scene → ℕ → List ℕ → Outcome → Type 0 where
   line_refused : {n p : ℕ} {x : Scene} {out : List ℕ} → track_written_of (L.Refused n p) out ≡ track_normal s room → scene_of x ≡ fresh
-      → NormalRecordingCalls s room x 0 out toRefusal
+      → NormalRecordingCalls s room x 0 out to_refusal
   behind_line : {size next n : ℕ} {x y : Scene} {mid out : List ℕ} {o : Outcome} → track_written_of (L.Written size next) mid ≡ track_normal s room
       → scene_of x ≡ fresh → NormalCalls s x next (drop size mid) y n out o
       → NormalRecordingCalls s room y (size + n) (take size mid ++ out) o

@@ -1,10 +1,10 @@
 -- What is told of a run of blocks, and what is written of it.
-use Rattle.std.specs.Prelude.{List, [], ◌∷◌, ◌++◌, Bool, cond, ℕ, ◌+◌, ◌-◌, length, take, drop, leb, eqb}
+use Rattle.std.specs.Prelude.{List, [], ◌++◌, Bool, cond, ℕ, ◌+◌, ◌-◌, length, take, drop, leb, eqb}
 use Rattle.std.proofs.lemmas.List.Edits.{sets}
 use Rattle.format.specs.Bytes.{le_write}
 use Rattle.format.specs.Layout.{Value, print}
 use Rattle.dem.specs.Scene.{Scene}
-use Rattle.dem.specs.Message.{Message, normal as normalMessage}
+use Rattle.dem.specs.Message.{Message, normal as normal_message}
 use Rattle.format.specs.Codec.{Run, WrittenRun, write_most, normal_bytes}
 use Rattle.dem.specs.Recording.{Block, angle_layout, messages, blocks, normal_block}
 use Rattle.dem.specs.Answer.{count_messages}
@@ -46,7 +46,7 @@ answered r =
 
 -- The normal form of a message or a block, where it is to be written.
 abbrev pub message_form : Bool → Scene → Message → List ℕ
-message_form on s v = cond on (normal_bytes messages normalMessage s v) []
+message_form on s v = cond on (normal_bytes messages normal_message s v) []
 
 abbrev pub block_form : Bool → Scene → Block → List ℕ
 block_form on s v = cond on (normal_bytes blocks normal_block s v) []

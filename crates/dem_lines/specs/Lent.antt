@@ -3,7 +3,7 @@ use Rattle.std.specs.Prelude.{List, cond, not, ℕ, eqb, ltb, length, replicate}
 use Rattle.std.specs.Int.{w16}
 use Rattle.std.proofs.Common.{of_z}
 use Rattle.dem.specs.Limits.{player_count}
-use Rattle.format.specs.Refusal.{code, wrongNumber, wrongScene}
+use Rattle.format.specs.Refusal.{code, wrong_number, wrong_scene}
 use Rattle.dem.specs.Scene.{PlayerLine, Scene, zero_line}
 use Rattle.dem.specs.Message.{Message, set_frags, set_colours}
 use Rattle.format.specs.Answer.{Answer, result, refusal, Item, Reply, reply}
@@ -43,8 +43,8 @@ player_of C.Clear = 0
 -- Sixteen lines, or 14; a player that has one of them, or 9; both at 0.
 unfoldable pub change_lent : LineChange → List PlayerLine → Lent (Answer (Unit {0}))
 change_lent c lines =
-    cond (not (eqb (length lines) player_count)) (lent (refusal (code wrongScene) 0) lines)
-    (cond (not (ltb (player_of c) player_count)) (lent (refusal (code wrongNumber) 0) lines) (lent (result tt) (changed_lines c lines)))
+    cond (not (eqb (length lines) player_count)) (lent (refusal (code wrong_scene) 0) lines)
+    (cond (not (ltb (player_of c) player_count)) (lent (refusal (code wrong_number) 0) lines) (lent (result tt) (changed_lines c lines)))
 
 -- ---- a message with the lines lent
 

@@ -1,7 +1,7 @@
 -- How code goes about a change: which lines it goes through, what each turn does, and which change a message brings.
 use Rattle.std.specs.Prelude.{◌≡◌, List, cond, not, ℕ, zero, suc, ◌+◌, eqb, ltb, pos, get_or, set}
 use Rattle.dem.specs.Limits.{player_count}
-use Rattle.format.specs.Refusal.{code, wrongNumber, wrongScene}
+use Rattle.format.specs.Refusal.{code, wrong_number, wrong_scene}
 use Rattle.dem.specs.Scene.{PlayerLine as Line, Scene as Described}
 use Rattle.dem.specs.Message.{apply, fill}
 use Rattle.wire.specs.declared.Text.{Text}
@@ -24,7 +24,7 @@ abbrev pub refused_plan : ℕ → Plan
 refused_plan n = plan (L.Refused n 0) 0 0
 
 abbrev pub line_plan : ℕ → Plan
-line_plan p = cond (ltb p player_count) (plan L.Changed p (p + 1)) (refused_plan (code wrongNumber))
+line_plan p = cond (ltb p player_count) (plan L.Changed p (p + 1)) (refused_plan (code wrong_number))
 
 abbrev pub change_plan : LineChange → Plan
 change_plan C.Nothing = plan L.Changed 0 0
@@ -33,7 +33,7 @@ change_plan (C.Colours p v) = line_plan p.0
 change_plan C.Clear = plan L.Changed 0 player_count
 
 abbrev pub plan_of : ℕ → LineChange → Plan
-plan_of count c = cond (not (eqb count player_count)) (refused_plan (code wrongScene)) (change_plan c)
+plan_of count c = cond (not (eqb count player_count)) (refused_plan (code wrong_scene)) (change_plan c)
 
 abbrev pub clear_line : PlayerLine
 clear_line = record { frags = pos 0; colours = 0 }

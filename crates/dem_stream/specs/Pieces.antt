@@ -1,6 +1,6 @@
 -- A recording in pieces, in normal form: what is told of one piece, and what the lent room holds afterwards.
 use Rattle.std.specs.Prelude.{List, Bool, cond, not, ◌&&◌, ℕ, ◌+◌, ◌-◌, ltb, eqb, length, take, drop}
-use Rattle.format.specs.Refusal.{code, cutBlock, shortRoom}
+use Rattle.format.specs.Refusal.{code, cut_block, short_room}
 use Rattle.dem.specs.Scene.{Scene}
 use Rattle.format.specs.Answer.{Answer, result, at_end, refusal, Written, Normalised, Rewriting}
 use Rattle.dem.specs.Answer.{normal_blocks_at, track_normal}
@@ -32,11 +32,11 @@ place_behind before place = cond (ltb greatest (before + place)) greatest (befor
 
 -- That a block is cut is no refusal where more bytes may follow.
 abbrev pub standing : Bool → ℕ → ℕ
-standing last n = cond (not last && eqb n (code cutBlock)) 0 n
+standing last n = cond (not last && eqb n (code cut_block)) 0 n
 
 -- The place of a refusal counts from the recording's first byte; that of short room is the length needed.
 abbrev pub refusal_place : ℕ → ℕ → ℕ → ℕ
-refusal_place before n place = cond (eqb n (code shortRoom)) place (place_behind before place)
+refusal_place before n place = cond (eqb n (code short_room)) place (place_behind before place)
 
 -- ---- blocks
 

@@ -1,6 +1,6 @@
 -- A walk over a block's messages: one step, and all of them.
 use Rattle.std.specs.Prelude.{List, cond, not, ℕ, ◌+◌, length}
-use Rattle.format.specs.Refusal.{code, wrongScene}
+use Rattle.format.specs.Refusal.{code, wrong_scene}
 use Rattle.format.specs.Bytes.{Result, found, refused}
 use Rattle.dem.specs.Scene.{Scene, in_range}
 use Rattle.dem.specs.Message.{Message}
@@ -57,7 +57,7 @@ walk_from given block s n (found ms rest) = walk (apply_all messages s (fill_all
 walk_from given block s n (refused r left) = walk given 0 r (place_in block left)
 
 unfoldable pub walk_all : Scene → List ℕ → Walk
-walk_all s block = cond (not (in_range s)) (walk s 0 (code wrongScene) 0) (walk_from s block s 0 (read_all messages s block))
+walk_all s block = cond (not (in_range s)) (walk s 0 (code wrong_scene) 0) (walk_from s block s 0 (read_all messages s block))
 
 abbrev pub walked_of : Walked → Walk
 walked_of r = walk (scene_of r.scene) r.messages r.refusal r.place

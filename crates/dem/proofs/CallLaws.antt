@@ -14,7 +14,7 @@ use Rattle.format.specs.Codec.{read_all, write_all, fill_all}
 use Rattle.format.specs.Answer.{place_in, Answer, result, at_end, refusal, reply, Item}
 use Rattle.dem.specs.Limits.{head_size}
 use Rattle.dem.specs.Scene.{Scene, fresh}
-use Rattle.dem.specs.Track.{TrackLine, read_track, track_number, writeTrack}
+use Rattle.dem.specs.Track.{TrackLine, read_track, track_number, write_track}
 use Rattle.dem.specs.Recording.{messages, angle_layout, Block, write_block, blocks, recording_of, read_recording, Reading, fill_recording, reading_of}
 use Rattle.dem.specs.Recording.{reading}
 use Rattle.dem.specs.WellFormed.{GoodBlock}
@@ -86,8 +86,8 @@ module _ (r : List ℕ) (h : Bytes r) where
   pub behind-track : (t : TrackLine) (rest : List ℕ) → read_track r ≡ found t rest → (drop (place_in r rest) r ≡ rest) × (place_in r rest ≤ length r)
   behind-track t rest e =
       let k : TrackRead r t rest = track-sound r t rest h e in
-      let n : place_in r rest ≡ length (writeTrack t) = omega (arith, simp length-append at (ap length k.tiles)) in
-      (ap (λ (j : ℕ). drop j r) n ∙ ap (drop (length (writeTrack t))) (sym k.tiles) ∙ drop-append_seam (writeTrack t) rest, omega arith)
+      let n : place_in r rest ≡ length (write_track t) = omega (arith, simp length-append at (ap length k.tiles)) in
+      (ap (λ (j : ℕ). drop j r) n ∙ ap (drop (length (write_track t))) (sym k.tiles) ∙ drop-append_seam (write_track t) rest, omega arith)
 
   pub track-told : (n : ℤ) (next : ℕ) → track_at r ≡ result (record { number = n; next = next })
       → (t : TrackLine) × (read_track r ≡ found t (drop next r)) × (track_number t ≡ n) × (next ≤ length r)

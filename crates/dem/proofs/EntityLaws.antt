@@ -9,7 +9,7 @@ use native.Mathlib.Omega.{arith}
 use borrow.Author.Tests.{lt-ltb}
 use lib.Dec.{ltb}
 use lib.ListN.{replicate}
-use Rattle.format.specs.Refusal.{wrongNumber}
+use Rattle.format.specs.Refusal.{wrong_number}
 use Rattle.format.specs.Bytes.{Result, found, refused, bit, read_number, le_read, unless}
 use Rattle.format.specs.Layout.{Value, parse}
 use Rattle.dem.specs.Limits.{entity_count}
@@ -45,7 +45,7 @@ abbrev answer : Context → List ℕ → Naming → ℕ
 answer c two (naming before channel behind) = refusal_of (parse (layout c) (before ++ two ++ replicate behind 0))
 
 abbrev expected : List ℕ → Naming → ℕ
-expected two (naming before channel behind) = unless (ltb (cond channel (le_read two / 8) (le_read two)) entity_count) wrongNumber
+expected two (naming before channel behind) = unless (ltb (cond channel (le_read two / 8) (le_read two)) entity_count) wrong_number
 
 pub entities_bounded : (c : Context) (a b : ℕ) → map (answer c (a ∷ b ∷ [])) namings ≡ map (expected (a ∷ b ∷ [])) namings
 unfolding layout kind_layout parse read_number bit

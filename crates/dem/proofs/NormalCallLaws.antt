@@ -11,13 +11,13 @@ use borrow.Author.Tests.{ltb-true, ltb-false}
 use lib.Dec.{ltb}
 use lib.ListN.{length, take, drop, length-append, length-drop}
 use lib.Seq.{take-append_seam, drop-append_seam, drop-drop}
-use Rattle.format.specs.Refusal.{code, shortRoom}
+use Rattle.format.specs.Refusal.{code, short_room}
 use Rattle.format.specs.Bytes.{Bytes, Result, found, refused}
 use Rattle.format.specs.Codec.{fill_all, write_normal}
 use Rattle.format.specs.Answer.{place_in, Answer, result, refusal, reply, Written, written, Normalised}
 use Rattle.dem.specs.Scene.{Scene, fresh}
-use Rattle.dem.specs.Track.{TrackLine, read_track, track_number, normal_track, writeTrack}
-use Rattle.dem.specs.Recording.{blocks, Reading, reading, scene_after, normal_of as normalOfReading, normal_form, write_reading, normal_block}
+use Rattle.dem.specs.Track.{TrackLine, read_track, track_number, normal_track, write_track}
+use Rattle.dem.specs.Recording.{blocks, Reading, reading, scene_after, normal_of as normal_of_reading, normal_form, write_reading, normal_block}
 use Rattle.dem.specs.Answer.{track_normal_of, track_normal}
 use Rattle.format.proofs.ResultLaws.{clash}
 use Rattle.format.proofs.NormalCallLaws.{AllWritten, NoneWritten, told_of_lem, room_of}
@@ -38,9 +38,9 @@ pub record NormalWritten (r room : List ℕ) (u : Scene) (n : ℕ) (out : List �
 abbrev pub NormalUnwritten : List ℕ → List ℕ → Type 0
 NormalUnwritten r room = (R : Reading) → reading r ≡ some R → length room < length (normal_form r)
 
-normal_of_lem : (r : List ℕ) (R : Reading) → reading r ≡ some R → normal_form r ≡ writeTrack (normal_track R.track) ++ write_normal blocks normal_block fresh R.blocks
+normal_of_lem : (r : List ℕ) (R : Reading) → reading r ≡ some R → normal_form r ≡ write_track (normal_track R.track) ++ write_normal blocks normal_block fresh R.blocks
 unfolding normal_form write_reading
-normal_of_lem r R e = ap normalOfReading e
+normal_of_lem r R e = ap normal_of_reading e
 
 module _ (r room : List ℕ) (h : Bytes r) where
   -- The track line's normal form was written.
@@ -48,20 +48,20 @@ module _ (r room : List ℕ) (h : Bytes r) where
     line : TrackLine
     read : read_track r ≡ found line (drop z.next r)
     within : z.next ≤ length r
-    size : z.length ≡ length (writeTrack (normal_track (track_number line)))
+    size : z.length ≡ length (write_track (normal_track (track_number line)))
     fits : z.length ≤ length room
-    bytes : take z.length mid ≡ writeTrack (normal_track (track_number line))
+    bytes : take z.length mid ≡ write_track (normal_track (track_number line))
     behind : drop z.length mid ≡ drop z.length room
 
   abbrev line_of : TrackLine → List ℕ
-  line_of t = writeTrack (normal_track (track_number t))
+  line_of t = write_track (normal_track (track_number t))
 
   abbrev line_wrote : TrackLine → List ℕ → Written (Unit {0}) Normalised
   line_wrote t rest =
       written (reply tt (result (record { length = length (line_of t); next = place_in r rest }))) (line_of t ++ drop (length (line_of t)) room)
 
   abbrev line_short : TrackLine → Written (Unit {0}) Normalised
-  line_short t = written (reply tt (refusal (code shortRoom) (length (line_of t)))) room
+  line_short t = written (reply tt (refusal (code short_room) (length (line_of t)))) room
 
   track-written : (z : Normalised) (mid : List ℕ) → track_normal r room ≡ written (reply tt (result z)) mid → TrackWritten z mid
   unfolding track_normal
@@ -128,7 +128,7 @@ module _ (r room : List ℕ) (h : Bytes r) where
       let b : ReadBlocks r w.line (drop z.next r) R = blocks-read r w.line (drop z.next r) h w.read R accepted in
       let tail : List ℕ = write_normal blocks normal_block fresh (fill_all blocks fresh b.items) in
       let form : normal_form r ≡ line_of w.line ++ tail =
-      normal_of_lem r R accepted ∙ ap (λ (x : Reading). writeTrack (normal_track x.track) ++ write_normal blocks normal_block fresh x.blocks) b.is in
+      normal_of_lem r R accepted ∙ ap (λ (x : Reading). write_track (normal_track x.track) ++ write_normal blocks normal_block fresh x.blocks) b.is in
       let left : length (drop z.length mid) ≡ length room - z.length = ap length w.behind ∙ length-drop z.length room in
       omega (arith, lacks b.items b.read, ap length form, length-append (line_of w.line) tail, w.size, left, w.fits)
 
@@ -148,5 +148,5 @@ module _ (r room : List ℕ) (h : Bytes r) where
               let b : ReadBlocks r t rest R = blocks-read r t rest h e R accepted in
               let tail : List ℕ = write_normal blocks normal_block fresh R.blocks in
               let form : normal_form r ≡ line_of t ++ tail =
-              normal_of_lem r R accepted ∙ ap (λ (x : Reading). writeTrack (normal_track x.track) ++ tail) b.is in
+              normal_of_lem r R accepted ∙ ap (λ (x : Reading). write_track (normal_track x.track) ++ tail) b.is in
               omega (arith, ltb-true (length room) (length (line_of t)) w, ap length form, length-append (line_of t) tail)

@@ -4,14 +4,14 @@ use mathlib.Core.Path.{◌≡◌, refl}
 use mathlib.Core.List.{List, [], ◌∷◌}
 use mathlib.Core.Bool.{Bool, true}
 use Prim.Native.Nat.{ℕ, ◌≤◌}
-use Rattle.format.specs.Refusal.{code, wrongTrack, cutBlock, longBlock, wrongAngle, cutMessage, unknownMessage, wrongString, reservedBit, wrongNumber}
-use Rattle.format.specs.Refusal.{wrongTime, afterDisconnect}
+use Rattle.format.specs.Refusal.{code, wrong_track, cut_block, long_block, wrong_angle, cut_message, unknown_message, wrong_string, reserved_bit, wrong_number}
+use Rattle.format.specs.Refusal.{wrong_time, after_disconnect}
 use Rattle.format.proofs.ResultLaws.{one_of, Answers, one-most}
 
 abbrev reading_refusals : List ℕ
 reading_refusals =
-    code wrongTrack ∷ code cutBlock ∷ code longBlock ∷ code wrongAngle ∷ code cutMessage ∷ code unknownMessage ∷ code wrongString
-    ∷ code reservedBit ∷ code wrongNumber ∷ code wrongTime ∷ code afterDisconnect ∷ []
+    code wrong_track ∷ code cut_block ∷ code long_block ∷ code wrong_angle ∷ code cut_message ∷ code unknown_message ∷ code wrong_string
+    ∷ code reserved_bit ∷ code wrong_number ∷ code wrong_time ∷ code after_disconnect ∷ []
 
 -- 0, or a number that reading answers.
 abbrev pub listed : ℕ → Bool
@@ -21,7 +21,7 @@ pub answers : Answers listed
 answers = record { met = refl; cut = refl; string = refl }
 
 abbrev pub reading_maximum : ℕ
-reading_maximum = code afterDisconnect
+reading_maximum = code after_disconnect
 
 pub listed-most : (n : ℕ) → listed n ≡ true → n ≤ reading_maximum
 listed-most n h = one-most reading_maximum (0 ∷ reading_refusals) n refl h

@@ -8,7 +8,7 @@ use native.Mathlib.Omega.{arith}
 use borrow.Author.Tests.{eq-eqb, ne_eqb, lt-ltb, le-ltb}
 use lib.Dec.{eqb, ltb}
 use lib.ListN.{length, drop, length-append, length-drop}
-use Rattle.format.specs.Refusal.{code, cutMessage, shortRoom, wrongScene}
+use Rattle.format.specs.Refusal.{code, cut_message, short_room, wrong_scene}
 use Rattle.format.specs.Bytes.{Bytes, Result, found, refused}
 use Rattle.format.specs.Codec.{Codec}
 use Rattle.format.specs.Answer.{place_in, at_end, refusal, Reply, reply, written, into_room, Item, item_of, item_at}
@@ -24,8 +24,8 @@ place_drop input place h = omega (arith, length-drop place input)
 module _ {S A B : Type 0} (c : Codec S A B) (s : S) (input : List ℕ) (place : ℕ) where
   chosen : Bool → Bool → Bool → Reply S (Item A B)
   chosen bad ended past =
-      cond bad (reply s (refusal (code wrongScene) 0))
-      (cond past (reply s (refusal (code cutMessage) place))
+      cond bad (reply s (refusal (code wrong_scene) 0))
+      (cond past (reply s (refusal (code cut_message) place))
       (cond ended (reply s at_end) (item_of c s input (c.read s (drop place input)))))
 
   chosen_is : (bad ended past : Bool) → not (c.in_range s) ≡ bad → eqb place (length input) ≡ ended → ltb (length input) place ≡ past
@@ -33,7 +33,7 @@ module _ {S A B : Type 0} (c : Codec S A B) (s : S) (input : List ℕ) (place : 
   unfolding item_at chosen
   chosen_is bad ended past p q r = rw (p, q, r)
 
-  pub item_wrong : c.in_range s ≡ false → item_at c s input place ≡ reply s (refusal (code wrongScene) 0)
+  pub item_wrong : c.in_range s ≡ false → item_at c s input place ≡ reply s (refusal (code wrong_scene) 0)
   unfolding chosen
   item_wrong e = chosen_is true (eqb place (length input)) (ltb (length input) place) (ap not e) refl refl
 
@@ -41,7 +41,7 @@ module _ {S A B : Type 0} (c : Codec S A B) (s : S) (input : List ℕ) (place : 
   unfolding chosen
   item_end e h = chosen_is false true false (ap not e) (eq-eqb place (length input) h) (le-ltb (length input) place (omega arith))
 
-  pub item_past : c.in_range s ≡ true → length input < place → item_at c s input place ≡ reply s (refusal (code cutMessage) place)
+  pub item_past : c.in_range s ≡ true → length input < place → item_at c s input place ≡ reply s (refusal (code cut_message) place)
   unfolding chosen
   item_past e h = chosen_is false false true (ap not e) (ne_eqb place (length input) (λ q. omega arith)) (lt-ltb (length input) place h)
 
@@ -86,5 +86,5 @@ pub room_enough : {S A : Type 0} (s : S) (r : Reply S A) (bytes room : List ℕ)
 room_enough s r bytes room h = rw (le-ltb (length room) (length bytes) h)
 
 pub room-short : {S A : Type 0} (s : S) (r : Reply S A) (bytes room : List ℕ) → length room < length bytes
-    → into_room s r bytes room ≡ written (reply s (refusal (code shortRoom) (length bytes))) room
+    → into_room s r bytes room ≡ written (reply s (refusal (code short_room) (length bytes))) room
 room-short s r bytes room h = rw (lt-ltb (length room) (length bytes) h)

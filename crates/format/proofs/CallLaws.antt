@@ -10,7 +10,7 @@ use borrow.Author.Tests.{eqb-true, eqb-false, ltb-true, ltb-false}
 use lib.Dec.{eqb, ltb}
 use lib.ListN.{length, take, drop, length-drop}
 use lib.Seq.{drop-length, take-append_seam}
-use Rattle.format.specs.Refusal.{code, cutMessage, wrongScene}
+use Rattle.format.specs.Refusal.{code, cut_message, wrong_scene}
 use Rattle.format.specs.Bytes.{Bytes, Result, found, refused, map_result, bind}
 use Rattle.format.specs.Codec.{Codec, after, read_all, write_most}
 use Rattle.format.specs.Answer.{place_in, Answer, result, at_end, refusal, Reply, reply, Item, item_of, item_at}
@@ -23,9 +23,9 @@ use Rattle.format.proofs.AnswerLaws.{item_wrong, item_end, item_past, item-at, i
 -- ---- the ways in which an item at a place is answered
 
 pub data Asked {S A B : Type 0} (c : Codec S A B) (s : S) (input : List ℕ) (place : ℕ) : Reply S (Item A B) → Type 0 where
-  asked_wrong : c.in_range s ≡ false → Asked c s input place (reply s (refusal (code wrongScene) 0))
+  asked_wrong : c.in_range s ≡ false → Asked c s input place (reply s (refusal (code wrong_scene) 0))
   asked_end : c.in_range s ≡ true → place ≡ length input → Asked c s input place (reply s at_end)
-  asked_past : length input < place → Asked c s input place (reply s (refusal (code cutMessage) place))
+  asked_past : length input < place → Asked c s input place (reply s (refusal (code cut_message) place))
   asked_found : {v : A} {rest : List ℕ} → c.in_range s ≡ true → place < length input → c.read s (drop place input) ≡ found v rest
       → Asked c s input place (reply (after c s v) (result (record { sent = v; filled = c.fill s v; next = place_in input rest })))
   asked_refused : {n : ℕ} {left : List ℕ} → c.in_range s ≡ true → place < length input → c.read s (drop place input) ≡ refused n left

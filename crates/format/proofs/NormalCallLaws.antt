@@ -10,7 +10,7 @@ use borrow.Author.Tests.{ltb-true, ltb-false}
 use lib.Dec.{ltb}
 use lib.ListN.{length, take, drop, length-append, length-drop}
 use lib.Seq.{take-append_seam, drop-append_seam, drop-drop}
-use Rattle.format.specs.Refusal.{code, shortRoom}
+use Rattle.format.specs.Refusal.{code, short_room}
 use Rattle.format.specs.Bytes.{Bytes, Result, found, refused, map_result}
 use Rattle.format.specs.Codec.{Codec, after, read_all, normal_bytes, fill_all, apply_all, write_normal}
 use Rattle.format.specs.Answer.{place_in, Answer, result, at_end, refusal, Reply, reply, Written, written, Item, Normalised, normal_of, normal_at}
@@ -53,7 +53,7 @@ module _ {S A B : Type 0} (c : Codec S A B) (normal : S → B → A) (s : S) (in
       (normal_bytes c normal s v ++ drop (length (normal_bytes c normal s v)) room)
 
   abbrev short : A → Written S Normalised
-  short v = written (reply s (refusal (code shortRoom) (length (normal_bytes c normal s v)))) room
+  short v = written (reply s (refusal (code short_room) (length (normal_bytes c normal s v)))) room
 
   pub normal_end-told : normal_at c normal s input place room ≡ written (reply t at_end) out → (place ≡ length input) × (t ≡ s) × (out ≡ room)
   unfolding normal_at

@@ -9,7 +9,7 @@ use lib.Dec.{T, eqb, leb}
 use borrow.Author.Tests.{eqb-true, leb-true}
 use lib.ListN.{length, take, drop, take-append-drop, length-append}
 use lib.Seq.{drop-append_seam}
-use Rattle.format.specs.Refusal.{Refusal, code, cutMessage, wrongString}
+use Rattle.format.specs.Refusal.{Refusal, code, cut_message, wrong_string}
 use Rattle.format.specs.Bytes.{Result, found, refused, map_result, bind, refused_but, refused_at, unless, require}
 
 -- No two constructors are equal: `clash (cc)`.
@@ -92,8 +92,8 @@ suffix-place ds bs p =
 -- Whether a rule may answer this number. Every format's readers answer 0, 5 and 7.
 pub record Answers (L : ℕ → Bool) : Type 0 where
   pub met : L 0 ≡ true
-  pub cut : L (code cutMessage) ≡ true
-  pub string : L (code wrongString) ≡ true
+  pub cut : L (code cut_message) ≡ true
+  pub string : L (code wrong_string) ≡ true
 
 -- One of these numbers.
 abbrev pub one_of : List ℕ → ℕ → Bool

@@ -1,4 +1,6 @@
 // The line that a program prints for a refusal.
+#![tactic(auto)]
+
 ghost use Rattle.std.specs.Prelude.{◌≡◌, ◌+◌, ◌≤◌, length};
 ghost use Rattle.std.proofs.lemmas.List.Edits.{sets};
 ghost use Rattle.report.specs.Lines.{most_digits, decimal_digits, decimal_text, line_room, line_of};
@@ -7,7 +9,7 @@ ghost use Rattle.report.specs.Lines.{most_digits, decimal_digits, decimal_text, 
 pub const LINE_ROOM: usize = 64;
 
 // A line's bytes, its line feed included, and zeros behind them.
-#[derive(Drop)]
+#[derive(Clone, Copy)]
 pub struct Line {
     pub text: [u8; LINE_ROOM],
     pub len: usize,

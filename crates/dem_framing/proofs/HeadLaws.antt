@@ -10,7 +10,7 @@ use lib.Dec.{leb, eqb}
 use lib.ListN.{length, take, drop, length-drop}
 use lib.Seq.{drop-drop, drop_at}
 use Rattle.dem.specs.Limits.{block_limit, head_size}
-use Rattle.format.specs.Refusal.{code, cutBlock, longBlock, afterDisconnect}
+use Rattle.format.specs.Refusal.{code, cut_block, long_block, after_disconnect}
 use Rattle.format.specs.Bytes.{Bytes, Result, found, refused, map_result, bind, refused_at, unless, require, free, le_read}
 use Rattle.format.specs.Layout.{Value, Layout, parse, print}
 use Rattle.dem.specs.Scene.{Scene}
@@ -27,11 +27,11 @@ use Rattle.dem_framing.specs.Heads.{sized_head, head_in, head_refusal}
 -- ---- in a scene
 
 module _ (s : Scene) (bs : List ℕ) where
-  pub block-ended : s.ended ≡ true → read_block s bs ≡ refused (code afterDisconnect) bs
+  pub block-ended : s.ended ≡ true → read_block s bs ≡ refused (code after_disconnect) bs
   unfolding read_block read_sized
   block-ended e = go s.ended e _
     where
-      go : (b : Bool) → b ≡ true → (q : Result Block) → require (unless (not b) afterDisconnect) bs q ≡ refused (code afterDisconnect) bs
+      go : (b : Bool) → b ≡ true → (q : Result Block) → require (unless (not b) after_disconnect) bs q ≡ refused (code after_disconnect) bs
       go true e q = refl
       go false e q = clash (cc)
 
@@ -39,13 +39,13 @@ module _ (s : Scene) (bs : List ℕ) where
   unfolding read_block read_sized head_in sized_head
   block_head e =
       going s.ended e _
-      ∙ go (unless (leb head_size (length bs)) cutBlock) (unless (leb size block_limit) longBlock)
-      (unless (leb (head_size + size) (length bs)) cutBlock) (parse angle_layout (drop 4 bs))
+      ∙ go (unless (leb head_size (length bs)) cut_block) (unless (leb size block_limit) long_block)
+      (unless (leb (head_size + size) (length bs)) cut_block) (parse angle_layout (drop 4 bs))
     where
       size : ℕ
       size = le_read (take 4 bs)
 
-      going : (b : Bool) → b ≡ false → (q : Result Block) → require (unless (not b) afterDisconnect) bs q ≡ q
+      going : (b : Bool) → b ≡ false → (q : Result Block) → require (unless (not b) after_disconnect) bs q ≡ q
       going true e q = clash (cc)
       going false e q = refl
 
@@ -71,7 +71,7 @@ head_fits left size angles refusal e z =
     go (leb head_size left) (leb size block_limit) refl (leb (head_size + size) left) refl (sym e ∙ z)
   where
     go : (x y : Bool) → leb size block_limit ≡ y → (z : Bool) → leb (head_size + size) left ≡ z
-        → cond x (cond y (cond z angles (code cutBlock)) (code longBlock)) (code cutBlock) ≡ 0
+        → cond x (cond y (cond z angles (code cut_block)) (code long_block)) (code cut_block) ≡ 0
         → (head_size + size ≤ left) × (size ≤ block_limit)
     go true true f true g e = (leb-true (head_size + size) left g, leb-true size block_limit f)
     go true true f false g e = let z : ⊥ = omega arith in absurd z
@@ -98,8 +98,8 @@ behind s v x c rest l e = go (eqb c.refusal 0) e
 
 tested : (bs rest : List ℕ) (size : ℕ) (vs : List Value) (angles : ℕ) (q : Result (ℕ × List Value)) → answered bs rest size vs angles ≡ q
     → (x y z : Bool)
-    → answered bs rest size vs (cond x (cond y (cond z angles (code cutBlock)) (code longBlock)) (code cutBlock))
-    ≡ require (unless x cutBlock) bs (require (unless y longBlock) bs (require (unless z cutBlock) bs q))
+    → answered bs rest size vs (cond x (cond y (cond z angles (code cut_block)) (code long_block)) (code cut_block))
+    ≡ require (unless x cut_block) bs (require (unless y long_block) bs (require (unless z cut_block) bs q))
 tested bs rest size vs angles q e true true true = e
 tested bs rest size vs angles q e true true false = refl
 tested bs rest size vs angles q e true false z = refl
@@ -146,11 +146,11 @@ head-whole s at size vs c d h p q l =
     (leb head_size (length bs)) (leb size block_limit) (leb (head_size + size) (length bs))
     ∙ ap (λ (k : ℕ). sized_head k bs) n.0
 
-pub head_read : (s : List ℕ) (at size : ℕ) (vs : List Value) (c d : Cursor) (refusal : ℕ) → Bytes s
+pub head_read_lem : (s : List ℕ) (at size : ℕ) (vs : List Value) (c d : Cursor) (refusal : ℕ) → Bytes s
     → gotten s size c ≡ number_at s (here at) 4 free → gotten s vs d ≡ parse_at s c angle_layout
     → refusal ≡ head_refusal (length s - at) size d.refusal
     → answered (drop at s) (drop (at + head_size) s) size vs refusal ≡ head_in (drop at s)
-head_read s at size vs c d refusal h p q r =
+head_read_lem s at size vs c d refusal h p q r =
     ap₂ (λ (l : List ℕ) (n : ℕ). answered bs l size vs n) (sym (drop-drop head_size at s))
     (r ∙ ap (λ (n : ℕ). head_refusal n size d.refusal) (sym (length-drop at s)))
     ∙ go (leb head_size (length bs)) refl

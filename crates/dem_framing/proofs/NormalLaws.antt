@@ -17,7 +17,7 @@ use mir.Val.{to_z, of_z, SFits}
 use mir.ValLaws.{to_z-of_z}
 use Rattle.format.specs.Bytes.{Bytes, Result, found, refused, map_result}
 use Rattle.format.specs.Digits.{line_feed, digit_zero}
-use Rattle.dem.specs.Track.{TrackLine, minus_sign, read_track, track_number, digits_of, normal_track, digit_bytes, writeTrack}
+use Rattle.dem.specs.Track.{TrackLine, minus_sign, read_track, track_number, digits_of, normal_track, digit_bytes, write_track}
 use Rattle.format.proofs.ResultLaws.{clash}
 use Rattle.dem.proofs.TrackLaws.{track-sound, track_range, digit-length}
 use Rattle.dem_framing.specs.Tracks.{track_of}
@@ -85,10 +85,10 @@ same_magnitude z v f e = e ∙ ap nat_abs (to_z-of_z w16 z f)
 -- With its sign, as code tests it, and the digits of the number without it.
 abbrev Line : ℤ → ℤ → Bool → Type 0
 Line z y b =
-    (v : ℕ) → v ≡ nat_abs y → lt_z y (pos 0) ≡ b → writeTrack (normal_track z) ≡ cond b (minus_sign ∷ digit_bytes (digits_of v)) (digit_bytes (digits_of v))
+    (v : ℕ) → v ≡ nat_abs y → lt_z y (pos 0) ≡ b → write_track (normal_track z) ≡ cond b (minus_sign ∷ digit_bytes (digits_of v)) (digit_bytes (digits_of v))
 
 pub line : (z : ℤ) (b : Bool) → SFits w16 z → Line z (to_z w16 (of_z w16 z)) b
-unfolding writeTrack
+unfolding write_track
 line z b f = subst (λ (y : ℤ). Line z y b) (sym (to_z-of_z w16 z f)) (go z b)
   where
     go : (z : ℤ) (b : Bool) → Line z z b
@@ -98,7 +98,7 @@ line z b f = subst (λ (y : ℤ). Line z y b) (sym (to_z-of_z w16 z f)) (go z b)
     go (negsuc n) false v e t = clash (cc)
 
 pub line-size : (z : ℤ) (b : Bool) → SFits w16 z → (v n : ℕ) → v ≡ nat_abs (to_z w16 (of_z w16 z)) → n ≡ length (digits_of v) → lt_z (to_z w16 (of_z w16 z)) (pos 0) ≡ b
-    → cond b (n + 1 + 1) (n + 1) ≡ length (writeTrack (normal_track z))
+    → cond b (n + 1 + 1) (n + 1) ≡ length (write_track (normal_track z))
 line-size z b f v n e m t = go b ∙ ap length (sym (line z b f v e t))
   where
     go : (b : Bool) → cond b (n + 1 + 1) (n + 1) ≡ length (cond b (minus_sign ∷ digit_bytes (digits_of v)) (digit_bytes (digits_of v)))

@@ -15,7 +15,7 @@ use lib.Seq.{drop-cons, drop-length}
 use mir.Syntax.{w16}
 use mir.Val.{to_z, of_z, SFits}
 use mir.ValLaws.{to_z_pos, to_z-of_z}
-use Rattle.format.specs.Refusal.{code, wrongTrack}
+use Rattle.format.specs.Refusal.{code, wrong_track}
 use Rattle.format.specs.Bytes.{Result, found, refused, map_result}
 use Rattle.format.specs.Digits.{line_feed, digit_zero, decimal}
 use Rattle.dem.specs.Track.{minus_sign, most_digits, is_digit, read_digits, line_of, read_track, track_number}
@@ -35,20 +35,20 @@ module _ (s : List ℕ) (at digits value : ℕ) where
       go zero = rw e
       go (suc n) = rw e
 
-  pub line_cut : length s ≤ at → refused (code wrongTrack) (drop (length s) s) ≡ digits_from s at digits value
+  pub line_cut : length s ≤ at → refused (code wrong_track) (drop (length s) s) ≡ digits_from s at digits value
   unfolding digits_from read_digits
   line_cut h = rw (drop-length, drop_of_length-le s {i = at} h) (go (most_digits - digits))
     where
-      go : (n : ℕ) → refused (code wrongTrack) [] ≡ map_result (λ ds. decimal ds value) (read_digits (ltb 0 digits) n [])
+      go : (n : ℕ) → refused (code wrong_track) [] ≡ map_result (λ ds. decimal ds value) (read_digits (ltb 0 digits) n [])
       go zero = refl
       go (suc n) = refl
 
   pub line_wrong : at < length s → (ltb 0 digits && eqb (get_or s at 0) line_feed) ≡ false → (ltb digits most_digits && is_digit (get_or s at 0)) ≡ false
-      → refused (code wrongTrack) (drop at s) ≡ digits_from s at digits value
+      → refused (code wrong_track) (drop at s) ≡ digits_from s at digits value
   unfolding digits_from read_digits
   line_wrong h e f = rw (drop-cons s at 0 h) (go (most_digits - digits) refl)
     where
-      go : (n : ℕ) → most_digits - digits ≡ n → refused (code wrongTrack) (get_or s at 0 ∷ drop (suc at) s)
+      go : (n : ℕ) → most_digits - digits ≡ n → refused (code wrong_track) (get_or s at 0 ∷ drop (suc at) s)
           ≡ map_result (λ ds. decimal ds value) (read_digits (ltb 0 digits) n (get_or s at 0 ∷ drop (suc at) s))
       go zero m = rw e
       go (suc n) m =

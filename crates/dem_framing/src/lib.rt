@@ -1,4 +1,6 @@
 // The head of a block, and the track line in front of the first.
+#![tactic(auto)]
+
 ghost use Rattle.std.specs.Prelude.{◌≡◌, [], ◌∷◌, ◌++◌, ◌+◌, ◌-◌, ◌≤◌, ◌<◌, eqb, nat_abs, length, drop, get_or};
 ghost use Rattle.std.proofs.lemmas.List.Edits.{sets};
 ghost use Rattle.dem.specs.Limits.{block_limit, head_size};
@@ -6,7 +8,7 @@ ghost use Rattle.format.specs.Bytes.{map_result};
 ghost use Rattle.format.specs.Layout.{number};
 ghost use Rattle.format.specs.Floats.{is_finite, angle_rule};
 ghost use Rattle.format.specs.Digits.{digit_zero};
-ghost use Rattle.dem.specs.Track.{minus_sign, read_track, track_number, digits_of, digit_bytes, normal_track, writeTrack};
+ghost use Rattle.dem.specs.Track.{minus_sign, read_track, track_number, digits_of, digit_bytes, normal_track, write_track};
 ghost use Rattle.dem.specs.Recording.{angle_layout};
 ghost use Rattle.wire.specs.Cursors.{gotten, number_at, parse_at};
 ghost use Rattle.dem_framing.specs.Heads.{head_refusal, head_of, head_in};
@@ -17,7 +19,7 @@ use format::refusal::{CUT_BLOCK, LONG_BLOCK, WRONG_ANGLE, WRONG_TRACK};
 use wire::{Cursor, Number};
 
 // A block's size, the bits of its three angles, and the head's refusal, 0 for none.
-#[derive(Drop)]
+#[derive(Clone, Copy)]
 pub struct HeadAt {
     pub size: usize,
     pub angle0: u32,
@@ -108,7 +110,7 @@ pub fn read_head(s: &[u8], at: usize) -> HeadAt
 }
 
 // A track number, the place behind its line, or of the first wrong byte or the end, and the line's refusal, 0 for none.
-#[derive(Drop)]
+#[derive(Clone, Copy)]
 pub struct TrackAt {
     pub number: i16,
     pub at: usize,
@@ -245,7 +247,7 @@ fn put_digits(room: &mut [u8], at: usize, v: u16) -> usize
 
 // How many bytes the normal line of a number has.
 pub fn track_size(number: i16) -> usize
-    ensures { result ≡ length (writeTrack (normal_track number)) }
+    ensures { result ≡ length (write_track (normal_track number)) }
 {
     let line = digit_count(magnitude(number)) + 1;
     if number < 0 { line + 1 } else { line }
@@ -253,9 +255,9 @@ pub fn track_size(number: i16) -> usize
 
 // The normal line of a number at the room's front, and how many bytes that is. The rest of the room stays.
 pub fn put_track(room: &mut [u8], number: i16) -> usize
-    requires { (nat_abs number < 1000) × (length (writeTrack (normal_track number)) ≤ length room.old) }
-    ensures put { room.new ≡ writeTrack (normal_track number) ++ drop (length (writeTrack (normal_track number))) room.old }
-    ensures next { result ≡ length (writeTrack (normal_track number)) }
+    requires { (nat_abs number < 1000) × (length (write_track (normal_track number)) ≤ length room.old) }
+    ensures put { room.new ≡ write_track (normal_track number) ++ drop (length (write_track (normal_track number))) room.old }
+    ensures next { result ≡ length (write_track (normal_track number)) }
 {
     let v = magnitude(number);
     if number < 0 {

@@ -1,4 +1,6 @@
 // Parts that several messages have, at a cursor, and what a reader of messages takes and answers.
+#![tactic(auto)]
+
 ghost use Rattle.std.specs.Prelude.{◌≡◌, [], ◌∷◌};
 ghost use Rattle.format.specs.Layout.{number, done};
 ghost use Rattle.wire.specs.Cursors.{gotten, parse_at};
@@ -12,38 +14,38 @@ use format::refusal::WRONG_NUMBER;
 use wire::{Cursor, Word};
 
 // The numbers of a scene that a message's layout depends on.
-#[derive(Drop)]
+#[derive(Clone, Copy)]
 pub struct Context {
     pub limit: u8,
     pub statics: u8,
     pub time: Time,
 }
 
-#[derive(Drop)]
+#[derive(Clone, Copy)]
 pub struct VectorAt {
     pub vector: Vector,
     pub cursor: Cursor,
 }
 
-#[derive(Drop)]
+#[derive(Clone, Copy)]
 pub struct LookAt {
     pub look: Look,
     pub cursor: Cursor,
 }
 
-#[derive(Drop)]
+#[derive(Clone, Copy)]
 pub struct PoseAt {
     pub pose: Pose,
     pub cursor: Cursor,
 }
 
-#[derive(Drop)]
+#[derive(Clone, Copy)]
 pub struct MessageAt {
     pub message: Message,
     pub cursor: Cursor,
 }
 
-#[derive(Drop)]
+#[derive(Clone, Copy)]
 pub struct SourceAt {
     pub channel: u8,
     pub entity: Entity,

@@ -21,7 +21,7 @@ use Rattle.dem.proofs.ShapeLaws.{update_numbered}
 use Rattle.wire.specs.Cursors.{text_in}
 use Rattle.wire.specs.declared.Text.{Text}
 use Rattle.strings.specs.Names.{names_in}
-use Rattle.dem_types.specs.Values.{values_by, long as longValue, vector_values, temporary_values, update_values}
+use Rattle.dem_types.specs.Values.{values_by, long as long_value, vector_values, temporary_values, update_values}
 use Rattle.dem_types.specs.declared.Entity.{Entity}
 use Rattle.dem_types.specs.declared.Vector.{Vector}
 use Rattle.dem_types.specs.declared.Update.{Update}
@@ -106,7 +106,7 @@ unfolding kind_layout
 kind-serverinfo x = refl
 
 abbrev head_values : (Text → List ℕ) → Serverinfo → List Value → List Value
-head_values f s vs = longValue s.protocol ∷ number s.limit ∷ number s.game ∷ text (f s.map) ∷ vs
+head_values f s vs = long_value s.protocol ∷ number s.limit ∷ number s.game ∷ text (f s.map) ∷ vs
 
 abbrev serverinfo_pieces : Serverinfo → List Piece
 serverinfo_pieces s =

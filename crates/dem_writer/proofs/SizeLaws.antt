@@ -16,7 +16,7 @@ use Rattle.format.specs.Bytes.{le_write, bit, write_string}
 use Rattle.format.specs.Layout.{Value, number, text, Layout, done, field, split, string, print, allows}
 use Rattle.format.specs.Masked.{Slot, Mask, is_sent, slot_layout}
 use Rattle.dem.specs.Scene.{Context, zero_baseline}
-use Rattle.dem.specs.Message.{Field, byte, short, long, chars, entity, player, statIndex, style, version, limit, channelEntity, timeBits, field_layout}
+use Rattle.dem.specs.Message.{Field, byte, short, long, chars, entity, player, stat_index, style, version, limit, channel_entity, time_bits, field_layout}
 use Rattle.dem.specs.Message.{row, rows, is_empty, names, TemporaryKind, point, line, explosion2, temporary_kind, temporary_fields, is_update, sound_slots, sound_tail, client_slots, client_tail, update_slots}
 use Rattle.dem.specs.Message.{update_mask, high_bit, wide_bit, update_layout, kind_layout, layout}
 use Rattle.format.proofs.ByteLaws.{StringBytes, le-length, bit_lt}
@@ -85,12 +85,12 @@ field_within c long h = more (omega arith) (within-field (λ v. h))
 field_within c chars h = within-string (λ t. h)
 field_within c entity h = more (omega arith) (within-field (λ v. h))
 field_within c player h = more (omega arith) (within-field (λ v. h))
-field_within c statIndex h = more (omega arith) (within-field (λ v. h))
+field_within c stat_index h = more (omega arith) (within-field (λ v. h))
 field_within c style h = more (omega arith) (within-field (λ v. h))
 field_within c version h = more (omega arith) (within-field (λ v. h))
 field_within c limit h = more (omega arith) (within-field (λ v. h))
-field_within c channelEntity h = more (omega arith) (within-split h)
-field_within c timeBits h = more (omega arith) (within-field (λ v. h))
+field_within c channel_entity h = more (omega arith) (within-split h)
+field_within c time_bits h = more (omega arith) (within-field (λ v. h))
 
 row_within : (c : Context) (fs : List Field) {k : Layout} {n : ℕ} → Within k n → Within (row c fs k) (string_limit * length fs + n)
 row_within c [] h = more (omega arith) h

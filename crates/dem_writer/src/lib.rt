@@ -1,5 +1,7 @@
 // The bytes that a message as sent is written as: a list of pieces, each some bytes of a text and then a number. One loop writes every
 // message.
+#![tactic(auto)]
+
 ghost use Rattle.std.specs.Prelude.{◌≡◌, List, [], ◌∷◌, ◌++◌, true, cond, ℕ, suc, ◌+◌, ◌-◌, ◌*◌, ◌^◌, ◌≤◌, ◌<◌, min, length, take, drop};
 ghost use Rattle.std.proofs.lemmas.List.Edits.{sets};
 ghost use Rattle.std.proofs.Common.{of_z};
@@ -25,7 +27,7 @@ use wire::Text;
 const MOST: usize = 24;
 
 // Some bytes of a text, then a number of `width` bytes, little end first. A number of no bytes is not sent.
-#[derive(Drop)]
+#[derive(Clone, Copy)]
 pub struct Piece {
     pub start: usize,
     pub len: usize,
@@ -33,7 +35,7 @@ pub struct Piece {
     pub value: u32,
 }
 
-#[derive(Drop)]
+#[derive(Clone, Copy)]
 pub struct Pieces {
     pub items: [Piece; MOST],
     pub count: usize,

@@ -7,7 +7,7 @@ use Prim.Native.Nat.{ℕ, zero, suc, ◌+◌}
 use borrow.Author.Tests.{eqb-true}
 use lib.Dec.{eqb}
 use Rattle.format.specs.Limits.{string_limit}
-use Rattle.format.specs.Refusal.{wrongNumber}
+use Rattle.format.specs.Refusal.{wrong_number}
 use Rattle.format.specs.Bytes.{unless, free, write_string}
 use Rattle.format.specs.Layout.{Value, number, text, Layout, done, string, print}
 use Rattle.dem.specs.Message.{is_empty, names}
@@ -47,7 +47,7 @@ module _ (P : Layout → Type 0) (none : P done) (one : (rule : List ℕ → ℕ
   either false k l p q = q
 
   names_all : (n : ℕ) (k : Layout) → P k → P (names n k)
-  names_all zero k h = one (λ t. unless (is_empty t) wrongNumber) (λ t. k) (λ t. h)
+  names_all zero k h = one (λ t. unless (is_empty t) wrong_number) (λ t. k) (λ t. h)
   names_all (suc n) k h = one free (λ t. cond (is_empty t) k (names n k)) (λ t. either (is_empty t) k (names n k) h (names_all n k h))
 
   lists_all : (m : ℕ) → P (names m (names m done))

@@ -1,4 +1,6 @@
 // What a message does to the scene.
+#![tactic(auto)]
+
 ghost use Rattle.std.specs.Prelude.{◌≡◌, List, [], ◌∷◌, ◌++◌, cond, ℕ, ◌+◌, ◌≤◌, ◌<◌};
 ghost use Rattle.dem.specs.Kind;
 ghost use Rattle.dem.specs.Limits.{entity_count};

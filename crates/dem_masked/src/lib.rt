@@ -1,4 +1,6 @@
 // Readers of the messages with a mask, as sent, from behind their number on. A field that the mask leaves out is 0.
+#![tactic(auto)]
+
 ghost use Rattle.std.specs.Prelude.{◌≡◌, [], ◌∷◌, ◌<◌};
 ghost use Rattle.std.proofs.Common.{of_z};
 ghost use Rattle.std.specs.Int.{w8, w16};
@@ -50,7 +52,7 @@ fn short_behind(s: &[u8], c: Cursor, mask: u16, k: u16) -> Short
 
 // ---- sound
 
-#[derive(Drop)]
+#[derive(Clone, Copy)]
 pub struct SoundAt {
     pub heard: Sound,
     pub cursor: Cursor,
@@ -180,7 +182,7 @@ fn read_supplies(s: &[u8], c: Cursor) -> SuppliesAt
     SuppliesAt { supplies, cursor }
 }
 
-#[derive(Drop)]
+#[derive(Clone, Copy)]
 pub struct ClientdataAt {
     pub data: Clientdata,
     pub cursor: Cursor,
@@ -236,7 +238,7 @@ pub fn read_clientdata(s: &[u8], c: Cursor, x: Context) -> MessageAt
 
 // ---- update
 
-#[derive(Drop)]
+#[derive(Clone, Copy)]
 pub struct UpdateAt {
     pub update: Update,
     pub cursor: Cursor,

@@ -9,11 +9,14 @@ use mir.Syntax.{w16, w32}
 use mir.Val.{Val, of_z, to_z}
 use mir.ValLaws.{to_z-of_z}
 use denote.Laws.{Is}
-use denote.Struct.Field.{i32-field}
+use denote.RattleType.{RattleType}
+use denote.Shadow.{shadow}
+use denote.Array.{Array, each}
+use denote.Builtin.{i32}
 use Rattle.dem.specs.Limits.{entity_count, player_count, stat_count}
 use Rattle.format.specs.Layout.{numbers}
 use Rattle.dem.specs.Scene.{PlayerLine as Line, Scene as Described}
-use Rattle.wire.proofs.FieldLaws.{Held, Fixed, fixed_by, AsNumbers, truth, struct, from, from_front, Each, list_undone, array_undone}
+use Rattle.wire.proofs.FieldLaws.{Held, Fixed, fixed_by, AsNumbers, truth, struct, from, from_front, Each, list_undone}
 use Rattle.dem_types.specs.declared.Time.{Time}
 use Rattle.dem_types.specs.declared.Time.TheVariants.{None, At}
 use Rattle.dem_types.specs.Values.{time_of}
@@ -72,6 +75,17 @@ lines_fixed xs ys p q e =
     let back = list_undone PlayerLineType.the_field line_of line_from line_back in
     sym (back xs p) ∙ ap (map line_from) e ∙ back ys q
 
+-- An array stands at its own row, and holds its elements' own values.
+module _ (R : RattleType) {X : Type 0} (view : R.Denot → X) (undo : X → R.Denot)
+    (undone : (x : R.Denot) (vs : List Val) → Is R x vs → undo (view x) ≡ x) where
+  items_held : (xs : List R.Denot) (us : List Val) → shadow (each R.Denot R.own_val xs us) → map undo (map view xs) ≡ xs
+  items_held [] us h = refl
+  items_held (x ∷ xs) [] h = absurd h
+  items_held (x ∷ xs) (u ∷ us) h = λ i. undone x (u ∷ []) h.0 i ∷ items_held xs us h.1 i
+
+  items_undone : (n : ℕ) (xs : List R.Denot) (vs : List Val) → Is (Array R n) xs vs → map undo (map view xs) ≡ xs
+  items_undone n xs vs h = items_held xs h.0 h.1.1
+
 abbrev time_from : Option ℕ → Time
 time_from none = None
 time_from (some bits) = At bits
@@ -108,9 +122,9 @@ rest_back : (t : Tables) (x : Rest) (vs : List Val) → Is RestType.the_row x vs
 unfolding scene_with
 rest_back t x vs h =
     let f = h.1.1 in
-    let stats = array_undone i32-field (of_z w32) (to_z w32) (λ z us q. to_z-of_z w32 z (record { sfits = q.1 })) stat_count x.stats _ f.0 in
+    let stats = items_undone i32 (of_z w32) (to_z w32) (λ z us q. to_z-of_z w32 z (record { sfits = q.1 })) stat_count x.stats _ f.0 in
     let own = from_front client x.client _ f.1.0 [] in
-    let players = array_undone PlayerLineType.the_field line_of line_from line_back player_count x.players _ f.1.1.1.1.1.1.1.1.0 in
+    let players = items_undone PlayerLineType.the_row line_of line_from line_back player_count x.players _ f.1.1.1.1.1.1.1.1.0 in
     λ i. record {
       stats = stats i;
       client = own i;
@@ -127,9 +141,9 @@ scene_back : (s : Scene) → Held SceneType.the_row s → scene_from (scene_of s
 unfolding scene_with
 scene_back s h =
     let f = h.1.1.1 in
-    let baselines = array_undone BaselineType.the_field baseline_numbers (from baseline) (λ b vs g. from_front baseline b vs g []) entity_count
+    let baselines = items_undone BaselineType.the_row baseline_numbers (from baseline) (λ b vs g. from_front baseline b vs g []) entity_count
     s.baselines _ f.0 in
-    let records = array_undone RecordType.the_field record_numbers (from latest) (λ r vs g. from_front latest r vs g []) entity_count
+    let records = items_undone RecordType.the_row record_numbers (from latest) (λ r vs g. from_front latest r vs g []) entity_count
     s.records _ f.1.0 in
     let rest = rest_back (tables_of s) s.rest _ f.1.1.1.1.0 in
     λ i. record { baselines = baselines i; records = records i; present = s.present; present_count = s.present_count; rest = rest i }

@@ -9,7 +9,7 @@ use lib.Dec.{leb, ltb, eqb}
 use lib.ListN.{length, length-map}
 use Rattle.format.specs.Floats.{time_in_range}
 use Rattle.dem.specs.Scene.{count_marks, in_range}
-use Rattle.format.proofs.FloatLaws.{infinity, time_bits}
+use Rattle.format.proofs.FloatLaws.{infinity, time_bits_lem}
 use Rattle.dem_types.specs.declared.Time.{Time}
 use Rattle.dem_types.specs.declared.Time.TheVariants.{At}
 use Rattle.dem.specs.Limits.{entity_count, player_count, static_limit}
@@ -44,7 +44,7 @@ abbrev pub within : Time → Bool
 within t = true && true && true && time_in_range (time_of t) && true && true
 
 pub time_is : (bits : ℕ) → bits < 2 ^ 32 → ltb bits infinity ≡ within (At bits)
-time_is bits h = sym (ap (λ (b : Bool). b && true && true) (time_bits bits h) ∙ same (ltb bits infinity))
+time_is bits h = sym (ap (λ (b : Bool). b && true && true) (time_bits_lem bits h) ∙ same (ltb bits infinity))
   where
     same : (b : Bool) → (b && true && true) ≡ b
     same true = refl

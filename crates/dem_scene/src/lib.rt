@@ -1,4 +1,6 @@
 // The scene: what all messages so far lead to.
+#![tactic(auto)]
+
 ghost use Rattle.std.specs.Prelude.{◌≡◌, List, [], ◌∷◌, map, true, cond, ℕ, ◌≤◌, ◌<◌, take, drop};
 ghost use Rattle.std.specs.Int.{w16, w32};
 ghost use Rattle.std.proofs.Common.{of_z};
@@ -12,7 +14,7 @@ ghost use Rattle.dem_parts.specs.Kinds.{context_of as numbers_of};
 ghost use Rattle.dem.specs.Message.{apply, raise, client_stats, fill, update_slots, client_slots, fill_update, fill_client, fill_sound};
 ghost use Rattle.wire.specs.declared.Text.{Text};
 ghost use Rattle.dem_types.specs.declared.Message.{Message};
-ghost use Rattle.dem_types.specs.Values.{values_by, values_of, look_values, pose_values, motion_values, arms_values, sound_values, update_values, client_values as sentClientValues};
+ghost use Rattle.dem_types.specs.Values.{values_by, values_of, look_values, pose_values, motion_values, arms_values, sound_values, update_values, client_values as sent_client_values};
 ghost use Rattle.dem_scene.specs.Views.{Numbered, BaselineOf, filled_by, Tables, no_tables, unmarked, scene_of, scene_with, with_tables, with_stats, baseline_numbers, record_values, client_values, filled_sound_values};
 
 use dem::limit::{
@@ -27,14 +29,14 @@ use dem_types::{
 };
 use format::limit::TIME_BOUND;
 
-#[derive(Drop)]
+#[derive(Clone, Copy)]
 pub struct Baseline {
     pub look: Look,
     pub pose: Pose,
 }
 
 // The latest record of an entity; `bit5` is its update's yes or no.
-#[derive(Drop)]
+#[derive(Clone, Copy)]
 pub struct Record {
     pub bit5: bool,
     pub look: Look,
@@ -42,7 +44,7 @@ pub struct Record {
     pub pose: Pose,
 }
 
-#[derive(Drop)]
+#[derive(Clone, Copy)]
 pub struct Client {
     pub ground: bool,
     pub water: bool,
@@ -53,7 +55,7 @@ pub struct Client {
 }
 
 // A sound filled in: it has no mask.
-#[derive(Drop)]
+#[derive(Clone, Copy)]
 pub struct FilledSound {
     pub volume: u8,
     pub attenuation: u8,
@@ -64,7 +66,7 @@ pub struct FilledSound {
 }
 
 // A message filled in; a plain one is as it was sent.
-#[derive(Drop)]
+#[derive(Clone, Copy)]
 pub enum Filled {
     Plain(Message),
     Sound(FilledSound),
@@ -72,14 +74,14 @@ pub enum Filled {
     Update(Entity, Record),
 }
 
-#[derive(Drop)]
+#[derive(Clone, Copy)]
 pub struct PlayerLine {
     pub frags: i16,
     pub colours: u8,
 }
 
 // Every part of the scene but the tables of entities and the number of marks: small enough to go by value through functions.
-#[derive(Drop)]
+#[derive(Clone, Copy)]
 pub struct Rest {
     pub stats: [i32; STAT_COUNT],
     pub client: Client,
@@ -92,7 +94,7 @@ pub struct Rest {
     pub players: [PlayerLine; PLAYER_COUNT],
 }
 
-#[derive(Drop)]
+#[derive(Clone, Copy)]
 pub struct Scene {
     pub baselines: [Baseline; ENTITY_COUNT],
     pub records: [Record; ENTITY_COUNT],
@@ -384,7 +386,7 @@ fn fill_arms(mask: u16, sent: Arms) -> Arms
 
 // View height its default, other fields 0, items always as sent.
 pub fn fill_client(c: Clientdata) -> Client
-    ensures { number Kind.clientdata ∷ client_values result ≡ fill_client (sentClientValues c) }
+    ensures { number Kind.clientdata ∷ client_values result ≡ fill_client (sent_client_values c) }
 {
     let mask = c.mask;
     let ground = wire::has(mask, clientdata::GROUND);

@@ -7,7 +7,7 @@ use Prim.Native.Nat.{ℕ}
 use lib.Dec.{leb, eqb}
 use Rattle.dem.specs.Limits.{temporary_type_count}
 use Rattle.dem.specs.Kind
-use Rattle.format.specs.Refusal.{code, wrongNumber}
+use Rattle.format.specs.Refusal.{code, wrong_number}
 use Rattle.format.specs.Bytes.{free}
 use Rattle.format.specs.Layout.{Value, number, done, put}
 use Rattle.dem.specs.Scene.{Context}
@@ -26,7 +26,7 @@ temporary-reads s c d x k t vs p =
 
 -- A type that is tested for its kind.
 pub type_reads : (s : List ℕ) (x : Context) (k : ℕ) (l e : Bool) (c b d : Cursor) → gotten s k b ≡ number_at s c 1 free
-    → d ≡ ruled b c.at (leb temporary_type_count k) (code wrongNumber) → l ≡ is_line k → e ≡ eqb k explosion2_type
+    → d ≡ ruled b c.at (leb temporary_type_count k) (code wrong_number) → l ≡ is_line k → e ≡ eqb k explosion2_type
     → temporary_at s d x k (cond l line (cond e explosion2 point)) ≡ kind_at s c x Kind.temporary
 unfolding kind_at kind_layout temporary_at
 type_reads s x k l e c b d p q f g =

@@ -2,7 +2,7 @@
 -- Assumes nothing.
 use mathlib.Core.Path.{◌≡◌, refl, sym, ap, ap₂, ◌∙◌}
 use mathlib.Core.List.{List, [], ◌∷◌, ◌++◌, append-nil}
-use mathlib.Core.Bool.{Bool, true, false, cond, not, ◌&&◌, ◌||◌, and_true, and_false, or-false}
+use mathlib.Core.Bool.{Bool, true, false, cond, not, ◌&&◌, ◌||◌, and-true, and-false, or-false}
 use Prim.Native.Nat.{ℕ, ◌+◌, ◌*◌, ◌<◌, ◌^◌, zero-le}
 use native.Mathlib.Omega.{arith}
 use borrow.Author.Tests.{leb-false}
@@ -17,14 +17,14 @@ use denote.Enum.Laws.{owed}
 use Rattle.dem.specs.Kind
 use Rattle.format.specs.Limits.{string_limit}
 use Rattle.dem.specs.Limits.{entity_count, player_count, stat_count, style_count, static_limit, name_limit, temporary_type_count, protocol}
-use Rattle.format.specs.Refusal.{reservedBit, wrongNumber, wrongTime}
+use Rattle.format.specs.Refusal.{reserved_bit, wrong_number, wrong_time}
 use Rattle.format.specs.Bytes.{unless, free, bit}
 use Rattle.format.specs.Layout.{Value, number, text, Layout, done, field, split, string, tail, allows, string_bytes}
 use Rattle.format.specs.Masked.{Mask, slot_layout, any_set}
 use Rattle.format.specs.Floats.{is_time, not_before}
 use Rattle.dem.specs.Scene.{Context as Numbers, zero_baseline}
 use Rattle.dem.specs.Message.{row, sound_slots, sound_tail, client_slots, client_tail, update_slots, update_mask, update_layout, number_rule, is_update}
-use Rattle.dem.specs.Message.{equals, between, high_rule, entity_layout, names, kind_layout, layout, entity_rule, entity}
+use Rattle.dem.specs.Message.{equals, between, high_rule, entity_layout, names, kind_layout, layout, entity_rule}
 use Rattle.dem.specs.Message.{TemporaryKind, point, line, explosion2, temporary_fields, is_line, explosion2_type, temporary_kind}
 use Rattle.dem.proofs.MessageLaws.{number-update, kind-update}
 use Rattle.dem.proofs.ShapeLaws.{update_numbered}
@@ -85,26 +85,26 @@ free-fields ws vs h = ap (allows (run ws done)) (sym (append-nil vs)) ∙ run_st
 
 -- A rule, then fields without one.
 ruled-fields : (w : ℕ) (good : ℕ → Bool) (ws : List ℕ) (v : ℕ) (vs : List Value) → v < 256 ^ w → Wide ws vs
-    → allows (field w (λ v. unless (good v) wrongNumber) (λ v. run ws done)) (number v ∷ vs) ≡ good v
+    → allows (field w (λ v. unless (good v) wrong_number) (λ v. run ws done)) (number v ∷ vs) ≡ good v
 ruled-fields w good ws v vs h f =
-    ruled_step true w good wrongNumber (λ v. run ws done) v vs h (lit< tt)
-    ∙ ap (λ (b : Bool). good v && b) (free-fields ws vs f) ∙ and_true (good v)
+    ruled_step true w good wrong_number (λ v. run ws done) v vs h (lit< tt)
+    ∙ ap (λ (b : Bool). good v && b) (free-fields ws vs f) ∙ and-true (good v)
 
 string-field : (t : List ℕ) → allows (string free (λ t. done)) (text t ∷ []) ≡ string_bytes string_limit t
 unfolding allows
-string-field t = string_step true done t [] ∙ and_true (string_bytes string_limit t)
+string-field t = string_step true done t [] ∙ and-true (string_bytes string_limit t)
 
 -- A rule, then a string.
 ruled-string : (good : ℕ → Bool) (v : ℕ) (t : List ℕ) → v < 256
-    → allows (field 1 (λ v. unless (good v) wrongNumber) (λ v. string free (λ t. done))) (number v ∷ text t ∷ [])
+    → allows (field 1 (λ v. unless (good v) wrong_number) (λ v. string free (λ t. done))) (number v ∷ text t ∷ [])
     ≡ (good v && string_bytes string_limit t)
 ruled-string good v t h =
-    ruled_step true 1 good wrongNumber (λ v. string free (λ t. done)) v (text t ∷ []) h (lit< tt)
+    ruled_step true 1 good wrong_number (λ v. string free (λ t. done)) v (text t ∷ []) h (lit< tt)
     ∙ ap (λ (b : Bool). good v && b) (string-field t)
 
 source-field : (c : ℕ) (e : Entity) → allows (split 2 3 entity_rule done) (number c ∷ number e.0 ∷ []) ≡ source_test c e
 unfolding allows
-source-field c e = split_step true done c e.0 [] ∙ and_true (source_test c e)
+source-field c e = split_step true done c e.0 [] ∙ and-true (source_test c e)
 
 -- ---- the kinds with a layout of their own
 
@@ -121,7 +121,7 @@ sound_law c s vs p =
     let rest : List Value = number s.channel ∷ number s.entity.0 ∷ number s.sound ∷ vector_values s.origin in
     let slots : List Value = number s.volume ∷ number s.attenuation ∷ [] in
     let sent : Bool = ltb m 4 && slot_test true sound_slots (bit m) slots in
-    ruled_step true 1 (λ m. not (any_set (2 ∷ 3 ∷ 4 ∷ 5 ∷ 6 ∷ 7 ∷ []) (bit m))) reservedBit
+    ruled_step true 1 (λ m. not (any_set (2 ∷ 3 ∷ 4 ∷ 5 ∷ 6 ∷ 7 ∷ []) (bit m))) reserved_bit
     (λ m. slot_layout sound_slots (bit m) (row c sound_tail done)) m
     (slots ++ rest) f.0.1 (lit< tt)
     ∙ ap (λ (b : Bool). b && allows (slot_layout sound_slots (bit m) (row c sound_tail done)) (slots ++ rest)) (small_mask m f.0.1)
@@ -130,12 +130,12 @@ sound_law c s vs p =
     ∙ ap (λ (b : Bool). sent && source_test s.channel s.entity && b)
     (free-fields (1 ∷ 2 ∷ 2 ∷ 2 ∷ []) (number s.sound ∷ vector_values s.origin)
     (f.1.1.1.1.1.0.1, vector_wide s.origin _ f.1.1.1.1.1.1.0))
-    ∙ and_true (sent && source_test s.channel s.entity)
+    ∙ and-true (sent && source_test s.channel s.entity)
 
 time_law : (x : Context) (v : ℕ) → v < 256 ^ 4 → allows (kind_layout (context_of x) Kind.time) (number v ∷ []) ≡ time_test x v
 unfolding kind_layout time_test allows
 time_law x v h =
-    ruled_step true 4 (λ v. is_time v && not_before (context_of x).time v) wrongTime (λ v. done) v [] h (lit< tt) ∙ and_true _
+    ruled_step true 4 (λ v. is_time v && not_before (context_of x).time v) wrong_time (λ v. done) v [] h (lit< tt) ∙ and-true _
 
 -- Protocol, limit, game and map, then a layout.
 info-fields : (k : Layout) (z limit game : ℕ) (map : List ℕ) (us : List Value) → z < 256 ^ 4 → limit < 256 → game < 256
@@ -145,9 +145,9 @@ info-fields : (k : Layout) (z limit game : ℕ) (map : List ℕ) (us : List Valu
 info-fields k z limit game map us hz hl hg =
     let version : Bool = eqb z protocol in
     let limited : Bool = version && (leb 1 limit && leb limit player_count) in
-    ruled_step true 4 (λ v. eqb v protocol) wrongNumber (λ v. field 1 (between 1 player_count) (λ v. field 1 free (λ v. string free (λ t. k)))) z
+    ruled_step true 4 (λ v. eqb v protocol) wrong_number (λ v. field 1 (between 1 player_count) (λ v. field 1 free (λ v. string free (λ t. k)))) z
     (number limit ∷ number game ∷ text map ∷ us) hz (lit< tt)
-    ∙ ruled_step version 1 (λ v. leb 1 v && leb v player_count) wrongNumber (λ v. field 1 free (λ v. string free (λ t. k))) limit
+    ∙ ruled_step version 1 (λ v. leb 1 v && leb v player_count) wrong_number (λ v. field 1 free (λ v. string free (λ t. k))) limit
     (number game ∷ text map ∷ us) hl (lit< tt)
     ∙ run_step limited (1 ∷ []) (string free (λ t. k)) (number game ∷ []) (text map ∷ us) (hg, tt)
     ∙ string_step limited k map us
@@ -172,7 +172,7 @@ client_law c d vs p =
     let last : Layout = run (2 ∷ 1 ∷ 1 ∷ 1 ∷ 1 ∷ 1 ∷ 1 ∷ []) done in
     let arms : Layout = slot_layout (take 3 (drop 9 client_slots)) (bit m) last in
     let behind-items : List Value = arms_values d.arms ++ supplies_values d.supplies in
-    ruled_step true 2 (λ m. not (any_set (8 ∷ 15 ∷ []) (bit m))) reservedBit (λ m. slot_layout client_slots (bit m) (row c client_tail done)) m
+    ruled_step true 2 (λ m. not (any_set (8 ∷ 15 ∷ []) (bit m))) reserved_bit (λ m. slot_layout client_slots (bit m) (row c client_tail done)) m
     (motion_values d.motion ++ (long d.items ∷ behind-items)) f.0.1 (lit< tt)
     ∙ slots_step clear (take 8 (drop 0 client_slots)) (bit m) (run (4 ∷ []) arms) (motion_values d.motion) (long d.items ∷ behind-items)
     (motion_wide d.motion _ f.1.0)
@@ -181,7 +181,7 @@ client_law c d vs p =
     (arms_wide d.arms _ f.1.1.1.0)
     ∙ ap (λ (b : Bool). armed && b)
     (free-fields (2 ∷ 1 ∷ 1 ∷ 1 ∷ 1 ∷ 1 ∷ 1 ∷ []) (supplies_values d.supplies) (supplies_wide d.supplies _ f.1.1.1.1.0))
-    ∙ and_true armed
+    ∙ and-true armed
 
 -- ---- temporary entities
 
@@ -197,7 +197,7 @@ module _ (c : Numbers) (v : Vector) (f : Wide (2 ∷ 2 ∷ 2 ∷ []) (vector_val
   typed : (k : ℕ) (vs : List Value) → k < 256
       → allows (kind_layout c Kind.temporary) (number k ∷ vs) ≡ (ltb k temporary_type_count && allows (fields (temporary_kind k)) vs)
   unfolding kind_layout fields
-  typed k vs h = ruled_step true 1 (λ k. ltb k temporary_type_count) wrongNumber (λ k. fields (temporary_kind k)) k vs h (lit< tt)
+  typed k vs h = ruled_step true 1 (λ k. ltb k temporary_type_count) wrong_number (λ k. fields (temporary_kind k)) k vs h (lit< tt)
 
   point_law : (k : ℕ) → k < 256
       → allows (kind_layout c Kind.temporary) (number k ∷ vector_values v) ≡ (ltb k temporary_type_count && not (is_line k || eqb k explosion2_type))
@@ -227,7 +227,7 @@ module _ (c : Numbers) (v : Vector) (f : Wide (2 ∷ 2 ∷ 2 ∷ []) (vector_val
           ap₂ (λ (a b : Bool). a && b) (line_known k h p)
           (ruled-fields 2 (λ v. ltb v entity_count) (2 ∷ 2 ∷ 2 ∷ 2 ∷ 2 ∷ 2 ∷ []) e (vector_values v ++ vector_values w) he
           (both_wide (2 ∷ 2 ∷ 2 ∷ []) (2 ∷ 2 ∷ 2 ∷ []) (vector_values v) (vector_values w) f g))
-      go false p = ap (λ (b : Bool). ltb k temporary_type_count && b) (none (eqb k explosion2_type)) ∙ and_false (ltb k temporary_type_count)
+      go false p = ap (λ (b : Bool). ltb k temporary_type_count && b) (none (eqb k explosion2_type)) ∙ and-false (ltb k temporary_type_count)
 
   explosion2_law : (first count : ℕ) → first < 256 → count < 256
       → allows (kind_layout c Kind.temporary) (temporary_values (Explosion2 v first count)) ≡ true
@@ -267,8 +267,8 @@ static_law c l p ls ps f g =
     let room : Bool = ltb c.statics static_limit in
     sym (field_step true 1 (number_rule c) (λ n. kind_layout c n) Kind.static (look_values l ++ pose_values p) (lit< tt)
     ∙ ap (λ (b : Bool). b && allows (run entity_widths done) (look_values l ++ pose_values p))
-    (met (not (leb static_limit c.statics)) wrongNumber (lit< tt) ∙ sym (not_from static_limit c.statics))
-    ∙ ap (λ (b : Bool). room && b) (free-fields entity_widths (look_values l ++ pose_values p) (entity_wide l p ls ps f g)) ∙ and_true room)
+    (met (not (leb static_limit c.statics)) wrong_number (lit< tt) ∙ sym (not_from static_limit c.statics))
+    ∙ ap (λ (b : Bool). room && b) (free-fields entity_widths (look_values l ++ pose_values p) (entity_wide l p ls ps f g)) ∙ and-true room)
 
 -- ---- update
 
@@ -290,7 +290,7 @@ update-fields u vs p =
     let shown : List Value = look_values u.look ++ (number u.effects ∷ pose_values u.pose) in
     sent_step true (bit n 0) 1 high_rule (λ high. entity_layout n high) h (number u.entity.0 ∷ shown) f.1.0.1
     ∙ ap (λ (b : Bool). high && b && allows (entity_layout n h) (number u.entity.0 ∷ shown))
-    (met (not (any_set (7 ∷ []) (bit h))) reservedBit (lit< tt) ∙ ap not (or-false (bit h 7)))
+    (met (not (any_set (7 ∷ []) (bit h))) reserved_bit (lit< tt) ∙ ap not (or-false (bit h 7)))
     ∙ entity_step clear (bit h 6) (λ e. slot_layout (update_slots zero_baseline) mask done) u.entity.0 shown f.1.1.0.1.1.0.1
     ∙ slots_step named (take 4 (drop 0 (update_slots zero_baseline))) mask effects (look_values u.look)
     (number u.effects ∷ pose_values u.pose)
@@ -299,7 +299,7 @@ update-fields u vs p =
     (f.1.1.1.1.0.1, tt)
     ∙ slots_step glows (take 6 (drop 5 (update_slots zero_baseline))) mask done (pose_values u.pose) []
     (pose_wide u.pose _ f.1.1.1.1.1.0)
-    ∙ and_true (glows && slot_test true (take 6 (drop 5 (update_slots zero_baseline))) mask (pose_values u.pose))
+    ∙ and-true (glows && slot_test true (take 6 (drop 5 (update_slots zero_baseline))) mask (pose_values u.pose))
     ∙ sym (ap (λ (mask : Mask). sent_test mask u) (update_mask_lem h n f.0.1))
 
 update_law : (c : Numbers) (u : Update) (vs : List Val) → Is (row_of UpdateType.the_type) u vs → update_test u ≡ allows (layout c) (update_values u)

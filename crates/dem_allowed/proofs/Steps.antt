@@ -3,14 +3,14 @@
 -- Assumes nothing.
 use mathlib.Core.Path.{◌≡◌, refl, sym, ap, ◌∙◌}
 use mathlib.Core.List.{List, [], ◌∷◌, ◌++◌}
-use mathlib.Core.Bool.{Bool, true, false, ◌&&◌, ◌||◌, and_true, and_false, and_assoc}
+use mathlib.Core.Bool.{Bool, true, false, ◌&&◌, ◌||◌, and-true, and-false, and_assoc}
 use Prim.Native.Nat.{ℕ, suc, ◌+◌, ◌*◌, ◌^◌, ◌<◌}
 use native.Mathlib.Omega.{arith}
 use borrow.Author.Tests.{lt-ltb, le-ltb, ltb-true, eqb-true, eqb-false, ne_eqb}
 use lib.Dec.{ltb, eqb, lit<}
 use Rattle.format.specs.Limits.{string_limit}
 use Rattle.dem.specs.Limits.{entity_count}
-use Rattle.format.specs.Refusal.{Refusal, code, wrongNumber}
+use Rattle.format.specs.Refusal.{Refusal, code, wrong_number}
 use Rattle.format.specs.Bytes.{unless, free, bit_of}
 use Rattle.format.specs.Layout.{Value, number, text, Layout, field, split, string, allows, string_bytes}
 use Rattle.format.specs.Masked.{Slot, Mask, optional, is_sent, slot_layout}
@@ -49,7 +49,7 @@ pub sent_step : (so sent : Bool) (w : ℕ) (rule : ℕ → ℕ) (k : ℕ → Lay
     → (so && allows (optional sent w rule k) (number v ∷ vs)) ≡ (so && (sent || eqb v 0) && eqb (rule v) 0 && allows (k v) vs)
 unfolding allows
 sent_step so true w rule k v vs h =
-    field_step so w rule k v vs h ∙ ap (λ (b : Bool). b && eqb (rule v) 0 && allows (k v) vs) (sym (and_true so))
+    field_step so w rule k v vs h ∙ ap (λ (b : Bool). b && eqb (rule v) 0 && allows (k v) vs) (sym (and-true so))
 sent_step so false w rule k v vs h =
     ap (λ (b : Bool). so && (b && eqb (rule v) 0 && allows (k v) vs)) (below_one v)
     ∙ sym (and_assoc so (eqb v 0 && eqb (rule v) 0) (allows (k v) vs))
@@ -62,7 +62,7 @@ pub entity_step : (so wide : Bool) (k : ℕ → Layout) (e : ℕ) (vs : List Val
 unfolding allows
 entity_step so wide k e vs h =
     ap (λ (b : Bool). so && (b && eqb (entity_rule e) 0 && allows (k e) vs)) (width wide)
-    ∙ ap (λ (b : Bool). so && ((wide || ltb e 256) && b && allows (k e) vs)) (met (ltb e entity_count) wrongNumber (lit< tt))
+    ∙ ap (λ (b : Bool). so && ((wide || ltb e 256) && b && allows (k e) vs)) (met (ltb e entity_count) wrong_number (lit< tt))
     ∙ sym (and_assoc so ((wide || ltb e 256) && ltb e entity_count) (allows (k e) vs))
     ∙ ap (λ (b : Bool). b && allows (k e) vs) (sym (and_assoc so (wide || ltb e 256) (ltb e entity_count)))
   where
@@ -78,9 +78,9 @@ split_step so k l e vs =
     ap (λ (b : Bool). so && (b && allows k vs)) (go (ltb l 8) refl (ltb e entity_count) refl)
     ∙ sym (and_assoc so (ltb l 8 && ltb e entity_count) (allows k vs))
   where
-    go : (a : Bool) → ltb l 8 ≡ a → (b : Bool) → ltb e entity_count ≡ b → (a && ltb (e * 8 + l) 65536 && eqb (unless b wrongNumber) 0) ≡ (a && b)
+    go : (a : Bool) → ltb l 8 ≡ a → (b : Bool) → ltb e entity_count ≡ b → (a && ltb (e * 8 + l) 65536 && eqb (unless b wrong_number) 0) ≡ (a && b)
     go false p b q = refl
-    go true p false q = and_false (ltb (e * 8 + l) 65536)
+    go true p false q = and-false (ltb (e * 8 + l) 65536)
     go true p true q =
         ap (λ (x : Bool). x && true) (lt-ltb (e * 8 + l) 65536 (omega (arith, ltb-true l 8 p, ltb-true e entity_count q)))
 
@@ -88,7 +88,7 @@ pub string_step : (so : Bool) (k : Layout) (t : List ℕ) (vs : List Value)
     → (so && allows (string free (λ t. k)) (text t ∷ vs)) ≡ (so && string_bytes string_limit t && allows k vs)
 unfolding allows
 string_step so k t vs =
-    ap (λ (b : Bool). so && (b && allows k vs)) (and_true (string_bytes string_limit t))
+    ap (λ (b : Bool). so && (b && allows k vs)) (and-true (string_bytes string_limit t))
     ∙ sym (and_assoc so (string_bytes string_limit t) (allows k vs))
 
 -- ---- a run of fields
@@ -114,7 +114,7 @@ run_step so (w ∷ ws) k [] us h = absurd h
 run_step so (w ∷ ws) k (text t ∷ vs) us h = absurd h
 run_step so (w ∷ ws) k (number v ∷ vs) us h =
     field_step so w free (λ v. run ws k) v (vs ++ us) h.0
-    ∙ ap (λ (b : Bool). b && allows (run ws k) (vs ++ us)) (and_true so)
+    ∙ ap (λ (b : Bool). b && allows (run ws k) (vs ++ us)) (and-true so)
     ∙ run_step so ws k vs us h.1
 
 -- ---- slots
@@ -125,7 +125,7 @@ widths (s ∷ ss) = s.width ∷ widths ss
 
 test_front : (so : Bool) (ss : List Slot) (mask : Mask) (vs : List Value) → Wide (widths ss) vs
     → slot_test so ss mask vs ≡ (so && slot_test true ss mask vs)
-test_front so [] mask vs h = sym (and_true so)
+test_front so [] mask vs h = sym (and-true so)
 test_front so (s ∷ ss) mask [] h = absurd h
 test_front so (s ∷ ss) mask (text t ∷ vs) h = absurd h
 test_front so (s ∷ ss) mask (number v ∷ vs) h =
@@ -141,7 +141,7 @@ slots_go so (s ∷ ss) mask k [] us h = absurd h
 slots_go so (s ∷ ss) mask k (text t ∷ vs) us h = absurd h
 slots_go so (s ∷ ss) mask k (number v ∷ vs) us h =
     sent_step so (is_sent s mask) s.width free (λ v. slot_layout ss mask k) v (vs ++ us) h.0
-    ∙ ap (λ (b : Bool). b && allows (slot_layout ss mask k) (vs ++ us)) (and_true (so && (is_sent s mask || eqb v 0)))
+    ∙ ap (λ (b : Bool). b && allows (slot_layout ss mask k) (vs ++ us)) (and-true (so && (is_sent s mask || eqb v 0)))
     ∙ slots_go (so && (is_sent s mask || eqb v 0)) ss mask k vs us h.1
 
 pub slots_step : (so : Bool) (ss : List Slot) (mask : Mask) (k : Layout) (vs us : List Value) → Wide (widths ss) vs

@@ -3,7 +3,7 @@
 -- Assumes nothing.
 use mathlib.Core.Path.{◌≡◌, refl, ap, ◌∙◌}
 use mathlib.Core.List.{List, [], ◌∷◌}
-use mathlib.Core.Bool.{Bool, true, false, cond, not, ◌&&◌, and_false}
+use mathlib.Core.Bool.{Bool, true, false, cond, not, ◌&&◌, and-false}
 use Prim.Native.Nat.{ℕ, zero, suc, ◌+◌, ◌-◌, ◌<◌, ◌≤◌}
 use native.Mathlib.Omega.{arith}
 use borrow.Author.Tests.{lt-leb, lt-ltb, eq-eqb}
@@ -24,7 +24,7 @@ string-long zero t h = refl
 string-long (suc n) [] h = let z : ⊥ = omega arith in absurd z
 string-long (suc n) (b ∷ t) h =
     let front : Bool = not (eqb b 0) && not (eqb b 255) && ltb b 256 in
-    ap (λ (x : Bool). front && x) (string-long n t (omega arith)) ∙ and_false front
+    ap (λ (x : Bool). front && x) (string-long n t (omega arith)) ∙ and-false front
 
 -- What is left of the test behind n bytes.
 abbrev pub left : List ℕ → ℕ → ℕ → ℕ → Bool

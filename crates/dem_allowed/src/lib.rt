@@ -1,4 +1,6 @@
 // The test behind refusal 13: whether some bytes read to a message as sent, in a scene.
+#![tactic(auto)]
+
 ghost use Rattle.std.specs.Prelude.{◌≡◌, []};
 ghost use Rattle.format.specs.Limits.{string_limit};
 ghost use Rattle.dem.specs.Limits.{name_limit};

@@ -2,7 +2,7 @@
 -- client's fields.
 -- Assumes nothing.
 use mathlib.Core.Path.{◌≡◌, refl, sym, ap, ◌∙◌, subst}
-use mathlib.Core.List.{List, [], ◌∷◌}
+use mathlib.Core.List.{List, ◌∷◌}
 use mathlib.Core.Bool.{Bool, true, false, cond, not, not-not}
 use Prim.Native.Nat.{ℕ, ◌+◌, ◌/◌, ◌%◌, ◌^◌, ◌<◌, ◌≤◌}
 use native.Mathlib.Nat.{le_refl}
@@ -11,7 +11,7 @@ use lib.Dec.{eqb}
 use lib.ListN.{length, take, drop}
 use lib.Seq.{take_all}
 use Rattle.dem.specs.Kind
-use Rattle.format.specs.Bytes.{Result, found, refused, map_result, le_read, refused_at, bit, bit_of, is_set}
+use Rattle.format.specs.Bytes.{found, refused, map_result, le_read, bit, bit_of, is_set}
 use Rattle.format.specs.Layout.{Value, number, done, parse, put, tail}
 use Rattle.format.specs.Masked.{slot_layout}
 use Rattle.dem.specs.Scene.{Context}

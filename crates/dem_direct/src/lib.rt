@@ -1,5 +1,7 @@
 // Updates and clientdata where all the bytes that they could have are there: one test for them all, and then no field is tested for
 // being whole. The place behind the last says whether all that were sent lie in the block.
+#![tactic(auto)]
+
 ghost use Rattle.std.specs.Prelude.{◌≡◌, [], ◌∷◌, ◌++◌, true, false, cond, ◌+◌, ◌<◌, ◌≤◌, length, take, drop};
 ghost use Rattle.std.proofs.Common.{of_z};
 ghost use Rattle.std.specs.Int.{w8, w16, w32};
@@ -367,7 +369,7 @@ fn needed_pose(d: &[u8], at: usize, mask: u16, o: Pose, needless: bool) -> PoseO
 
 // Mask and entity, the place behind them, and whether one of their bytes was sent needlessly: a byte of high mask bits that is 0, or a second
 // byte of the entity that is 0.
-#[derive(Drop)]
+#[derive(Clone, Copy)]
 pub struct UpdateHead {
     pub mask: u16,
     pub entity: Entity,
@@ -397,7 +399,7 @@ pub fn update_head(d: &[u8], at: usize, low: u8) -> UpdateHead
 }
 
 // The head of an update that is loaded, and the index of its entity; or it is left.
-#[derive(Drop)]
+#[derive(Clone, Copy)]
 pub struct LoadedHead {
     pub left: bool,
     pub index: usize,
@@ -467,7 +469,7 @@ fn record_of(mask: u16, o: Look, l: LookOr, pose: Pose) -> Record
 }
 
 // A record and the place behind the fields; or it is left.
-#[derive(Drop)]
+#[derive(Clone, Copy)]
 pub struct RecordAt {
     pub left: bool,
     pub record: Record,
@@ -655,7 +657,7 @@ fn client_fields(d: &[u8], at: usize, mask: u16, needless: bool) -> ClientOr
 }
 
 // Clientdata filled in, the place behind it or the refusal, and whether it may not be in normal form.
-#[derive(Drop)]
+#[derive(Clone, Copy)]
 pub struct ClientAt {
     pub client: Client,
     pub cursor: Cursor,

@@ -10,7 +10,7 @@ use lib.Dec.{eqb, leb, lit<}
 use mir.Val.{bool_byte}
 use Rattle.dem.specs.Kind
 use Rattle.format.specs.Bytes.{le_write, is_set, bit, bit_of}
-use Rattle.format.specs.Layout.{Value, number, Layout, done, field, print, first_value, first_number, as_number, tail}
+use Rattle.format.specs.Layout.{Value, number, Layout, done, print, first_value, first_number, as_number, tail}
 use Rattle.format.specs.Masked.{Slot, Mask, is_sent, differs, slot_layout, send_slots}
 use Rattle.dem.specs.Scene.{Context, Baseline, zero_baseline}
 use Rattle.dem.specs.Message.{layout, kind_layout, high_bit, wide_bit, update_mask, update_slots, sent_mask, high_byte, update_number, send_update}

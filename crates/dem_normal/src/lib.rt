@@ -1,5 +1,7 @@
 // Writers that put the normal form of one message into a scratch array. There is room behind the place, so a byte is stored always,
 // and the place moves on only where it is sent: no field needs a branch of its own.
+#![tactic(auto)]
+
 ghost use Rattle.std.specs.Prelude.{◌≡◌, List, [], ◌∷◌, ◌++◌, Bool, true, cond, ℕ, ◌+◌, ◌-◌, ◌*◌, ◌^◌, ◌≤◌, ◌<◌, length, take, drop};
 ghost use Rattle.std.proofs.lemmas.List.Edits.{sets};
 ghost use Rattle.format.specs.Bytes.{le_write, bit_of, from_bits};
@@ -52,7 +54,7 @@ fn put_short_if(out: &mut [u8], at: usize, sent: bool, v: u16) -> usize
 // ---- an update's fields
 
 // A pose's numbers by their bits.
-#[derive(Drop)]
+#[derive(Clone, Copy)]
 struct PoseBits {
     x: u16,
     angle0: u8,
@@ -183,7 +185,7 @@ pub fn put_update(out: &mut [u8], at: usize, entity: Entity, r: Record, b: Basel
 // ---- clientdata
 
 // A motion's numbers by their bits.
-#[derive(Drop)]
+#[derive(Clone, Copy)]
 struct MotionBits {
     view_height: u8,
     pitch: u8,
@@ -394,7 +396,7 @@ pub fn put_copy(on: bool, out: &mut [u8], at: usize, s: &[u8], from: usize, to: 
 // ---- behind input that is kept as it was read
 
 // How many bytes are put, and from where on the input is kept as it was read: that is not copied yet.
-#[derive(Drop)]
+#[derive(Clone, Copy)]
 pub struct Scratch {
     pub size: usize,
     pub kept: usize,

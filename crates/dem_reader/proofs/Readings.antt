@@ -9,7 +9,7 @@ use borrow.Author.Tests.{eq-eqb, ne_eqb, le-leb}
 use lib.Dec.{leb, eqb}
 use lib.ListN.{length, take, drop, get_or}
 use Rattle.dem.specs.Kind
-use Rattle.format.specs.Refusal.{cutMessage, afterDisconnect}
+use Rattle.format.specs.Refusal.{cut_message, after_disconnect}
 use Rattle.format.specs.Bytes.{Bytes, Result, found, refused, refused_at, unless, require, le_read, read_number}
 use Rattle.format.specs.Layout.{Value, number, Layout, parse, put}
 use Rattle.dem.specs.Scene.{Scene, Context, context_of}
@@ -87,7 +87,7 @@ read_number_lem s at n x us c h q e =
     let f = bind-found (read_number 1 (number_rule x) bs) (λ v rest. put (number v) (parse (kind_layout x v) rest)) (number n ∷ us) (drop c.at s)
     (parse-found s at (layout x) (number n ∷ us) c q e) in
     let g = map_found (λ vs. number f.value ∷ vs) (parse (kind_layout x f.value) f.between) (number n ∷ us) (drop c.at s) f.later in
-    let a = require-found (unless (leb 1 (length bs)) cutMessage) bs (require (number_rule x v) bs (found v (drop 1 bs))) f.value f.between f.first in
+    let a = require-found (unless (leb 1 (length bs)) cut_message) bs (require (number_rule x v) bs (found v (drop 1 bs))) f.value f.between f.first in
     let b = require-found (number_rule x v) bs (found v (drop 1 bs)) f.value f.between a.1 in
     let z : found v (drop 1 bs) ≡ found f.value f.between = b.1 in
     let y : number f.value ∷ g.0 ≡ number n ∷ us = g.2 in
@@ -114,26 +114,26 @@ kind-read s at n x vs c h e m k q =
 pub message-some : (t : Scene) (bs rest : List ℕ) → read_message t bs ≡ found [] rest → ⊥
 unfolding read_message
 message-some t bs rest e =
-    let a = require-found (unless (not t.ended) afterDisconnect) bs (refused_at bs (parse (layout_in t) bs)) [] rest e in
+    let a = require-found (unless (not t.ended) after_disconnect) bs (refused_at bs (parse (layout_in t) bs)) [] rest e in
     parse-some (context_of t) bs rest (at-found bs (parse (layout_in t) bs) [] rest a.1)
 
 module _ (t : Scene) (s : List ℕ) (at : ℕ) where
   pub message-ended : t.ended ≡ true → read_message t (drop at s) ≡ refused 11 (drop at s)
   unfolding read_message
   message-ended e =
-      ap (λ (b : Bool). require (unless (not b) afterDisconnect) (drop at s) (refused_at (drop at s) (parse (layout_in t) (drop at s)))) e
+      ap (λ (b : Bool). require (unless (not b) after_disconnect) (drop at s) (refused_at (drop at s) (parse (layout_in t) (drop at s)))) e
 
   -- What the layout reads to, where the scene is not ended.
   pub message_parsed : t.ended ≡ false → (vs : List Value) (rest : List ℕ) → parse (layout_in t) (drop at s) ≡ found vs rest
       → read_message t (drop at s) ≡ found vs rest
   unfolding read_message
   message_parsed going vs rest e =
-      ap₂ (λ (b : Bool) (z : Result Message). require (unless (not b) afterDisconnect) (drop at s) (refused_at (drop at s) z)) going e
+      ap₂ (λ (b : Bool) (z : Result Message). require (unless (not b) after_disconnect) (drop at s) (refused_at (drop at s) z)) going e
 
   module _ (going : t.ended ≡ false) (vs : List Value) (c : Cursor) (q : gotten s vs c ≡ parse_at s (here at) (layout_in t)) where
     go_on : (p : Result Message) → refused_at (drop at s) (parse (layout_in t) (drop at s)) ≡ p → read_message t (drop at s) ≡ p
     unfolding read_message
-    go_on p e = ap₂ (λ (b : Bool) (z : Result Message). require (unless (not b) afterDisconnect) (drop at s) z) going e
+    go_on p e = ap₂ (λ (b : Bool) (z : Result Message). require (unless (not b) after_disconnect) (drop at s) z) going e
 
     pub message-found : c.refusal ≡ 0 → read_message t (drop at s) ≡ found vs (drop c.at s)
     message-found e = go_on (found vs (drop c.at s)) (ap (refused_at (drop at s)) (parse-found s at (layout_in t) vs c q e))

@@ -1,4 +1,6 @@
 // The message at a place of a block's bytes, as sent.
+#![tactic(auto)]
+
 ghost use Rattle.std.specs.Prelude.{◌≡◌, true, ◌≤◌};
 ghost use Rattle.dem.specs.Message.{layout, number_rule, is_message};
 ghost use Rattle.wire.specs.Cursors.{gotten, number_at, parse_at};

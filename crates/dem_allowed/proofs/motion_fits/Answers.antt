@@ -1,0 +1,16 @@
+-- `dem_allowed::motion_fits` meets its contract: each field is tested as its slot says.
+use Rattle.dem_allowed.specs.Tests.{motion_test}
+use Rattle.dem_allowed.proofs.MaskTests.{both, or_else}
+use Rattle.dem_allowed.proofs.motion_fits.Goals as goal
+
+pub returns : goal.returns
+unfolding motion_test
+returns c =
+    both (both (both (both (both (both (both (or_else _ c.has.ensures)
+    (or_else _ c.has-2.ensures))
+    (or_else _ c.has-3.ensures))
+    (or_else _ c.has-4.ensures))
+    (or_else _ c.has-5.ensures))
+    (or_else _ c.has-6.ensures))
+    (or_else _ c.has-7.ensures))
+    (or_else _ c.has-8.ensures)

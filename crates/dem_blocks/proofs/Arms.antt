@@ -4,14 +4,11 @@
 use mathlib.Core.Path.{◌≡◌, refl, sym, ap, ap₂, ◌∙◌, subst}
 use mathlib.Core.Logic.{◌≢◌}
 use mathlib.Core.List.{List, [], ◌∷◌, ◌++◌, map, append-nil}
-use mathlib.Core.Bool.{Bool, true, false, cond, not}
+use mathlib.Core.Bool.{Bool, true, false, cond}
 use Prim.Native.Nat.{ℕ, ◌+◌, ◌-◌, ◌<◌, ◌≤◌}
 use native.Mathlib.Omega.{arith}
 use borrow.Author.Tests.{leb-true, leb-false, le-leb, eq-eqb}
-use denote.Enum.Declared.{tag_of}
-use types.Run.{OneOf}
-use mir.Val.{has_key}
-use lib.Dec.{T, leb, eqb}
+use lib.Dec.{leb, eqb}
 use lib.IntN.{pos}
 use lib.ListN.{length, take, drop, get_or, set, replicate, length-append, length-drop, drop_of_length-le}
 use lib.Seq.{take-append_seam, take_all}
@@ -21,7 +18,7 @@ use Rattle.format.specs.Bytes.{Bytes, Result, found, refused, map_result}
 use Rattle.format.specs.Layout.{Value, number, Layout, parse, print, tail, put}
 use Rattle.dem.specs.Scene.{Scene, Context, context_of, cleared, count_marks, in_range}
 use Rattle.dem.specs.Message.{is_message, is_update, number_rule, kind_layout, layout, layout_in, update_layout, fill_update, fill_client, fill_sound, fill}
-use Rattle.dem.specs.Message.{send_update, send_client, send_sound, normal, apply, normal as normalMessage}
+use Rattle.dem.specs.Message.{send_update, send_client, send_sound, normal, apply, normal as normal_message}
 use Rattle.format.specs.Codec.{normal_bytes}
 use Rattle.dem.specs.Recording.{read_message, write_message, messages}
 use Rattle.format.proofs.ResultLaws.{clash}
@@ -36,20 +33,17 @@ use Rattle.dem.proofs.MessageLaws.{kind-update, fill-update, fill-client}
 use Rattle.dem.proofs.UpdateLaws.{entity-known, UpdateRead, update-read}
 use Rattle.wire.specs.Cursors.{gotten, parse_at, placed}
 use Rattle.wire.specs.declared.Cursor.{Cursor}
-use Rattle.wire.specs.declared.Text.{Text}
 use Rattle.wire.proofs.Sticky.{here}
-use Rattle.dem_types.specs.contracts.Message as Messages
 use Rattle.dem_types.proofs.ByNumber.{update_place, not_at}
 use Rattle.dem_types.specs.declared.Message.{Message as Sent}
 use Rattle.dem_types.specs.declared.Message.TheVariants as M
-use Rattle.dem_types.specs.declared.Clientdata.{Clientdata}
 use Rattle.dem_types.specs.declared.Entity.{Entity}
 use Rattle.dem_types.specs.declared.Look.{Look}
 use Rattle.dem_types.specs.declared.Pose.{Pose}
 use Rattle.dem_types.specs.declared.Serverinfo.{Serverinfo}
 use Rattle.dem_types.specs.declared.Sound.{Sound}
 use Rattle.dem_types.specs.declared.Update.{Update}
-use Rattle.dem_types.specs.Values.{values_of, values_by, sound_values, update_values}
+use Rattle.dem_types.specs.Values.{values_of, sound_values, update_values}
 use Rattle.dem_parts.specs.Kinds.{gotten_message, kind_at}
 use Rattle.dem_scene.specs.Views.{Numbered, baseline_numbers, record_numbers, record_values, client_values, Tables, no_tables, unmarked, scene_with, scene_of, with_tables}
 use Rattle.dem_scene.specs.declared.Baseline.{Baseline}
@@ -58,7 +52,7 @@ use Rattle.dem_scene.specs.declared.Record.{Record}
 use Rattle.dem_scene.specs.declared.Rest.{Rest}
 use Rattle.dem_scene.specs.declared.Scene.{Scene as Given}
 use Rattle.dem_scene.proofs.Changes.{set_seen, seen_at}
-use Rattle.dem_effects.proofs.Tables.{tables_in, with_baselines, updated, update_applied, matched, not_among, tables_kept, rest_joined}
+use Rattle.dem_effects.proofs.Tables.{tables_in, with_baselines, updated, update_applied, matched, tables_kept, rest_joined}
 use Rattle.dem_reader.specs.Passed.{is_passed}
 use Rattle.dem_reader.proofs.Arms.{update_arm}
 use Rattle.dem_reader.proofs.Passing.{each-passed}
@@ -109,9 +103,9 @@ passed_still : (t : Scene) (us : List Value) (n : ℕ) → is_passed n ≡ true 
 unfolding apply fill
 passed_still t us = each-passed (λ (n : ℕ). apply t (fill t (number n ∷ us)) ≡ t) refl refl refl refl refl refl refl
 
-passed_form : (t : Scene) (us : List Value) (n : ℕ) → is_passed n ≡ true → normal_bytes messages normalMessage t (number n ∷ us) ≡ write_message t (number n ∷ us)
+passed_form : (t : Scene) (us : List Value) (n : ℕ) → is_passed n ≡ true → normal_bytes messages normal_message t (number n ∷ us) ≡ write_message t (number n ∷ us)
 unfolding normal fill write_message
-passed_form t us = each-passed (λ (n : ℕ). normal_bytes messages normalMessage t (number n ∷ us) ≡ write_message t (number n ∷ us)) refl refl refl refl refl refl refl
+passed_form t us = each-passed (λ (n : ℕ). normal_bytes messages normal_message t (number n ∷ us) ≡ write_message t (number n ∷ us)) refl refl refl refl refl refl refl
 
 -- Clientdata as it was sent, behind what was read and filled in.
 pub record ClientRead (s : List ℕ) (at : ℕ) (x : Context) (k : Client) (c : Cursor) : Type 0 where
@@ -173,7 +167,7 @@ module _ (s : List ℕ) (at : ℕ) (l : at < length s) (b : List Baseline) (e : 
       parsed-refused z = message-refused (held b e p x) s at going vs c q z
 
       pub parsed_moved : c.refusal ≡ 0 → (t : Scene) → apply (held b e p x) (fill (held b e p x) vs) ≡ t
-          → (form : List ℕ) → normal_bytes messages normalMessage (held b e p x) vs ≡ form → Moved s (held b e p x) at t c.at form
+          → (form : List ℕ) → normal_bytes messages normal_message (held b e p x) vs ≡ form → Moved s (held b e p x) at t c.at form
       unfolding scene_with
       parsed_moved z t f form g = record { values = vs; read = message-found (held b e p x) s at going vs c q z; scene = f; normal = g }
 
@@ -201,7 +195,7 @@ module _ (s : List ℕ) (at : ℕ) (l : at < length s) (b : List Baseline) (e : 
     update_form i r = print (layout_in (held b e p x)) (send_update (baseline_numbers (get_or b i no_baseline)) (number i ∷ record_values r))
 
     update-normal : (i : ℕ) (r : Record) (vs : List Value) → fill (held b e p x) vs ≡ number Kind.update ∷ number i ∷ record_values r
-        → normal_bytes messages normalMessage (held b e p x) vs ≡ update_form i r
+        → normal_bytes messages normal_message (held b e p x) vs ≡ update_form i r
     unfolding scene_with normal write_message
     update-normal i r vs f =
         ap (λ (m : List Value). print (layout_in (held b e p x)) (normal (held b e p x) m)) f
@@ -411,19 +405,19 @@ module _ (s : List ℕ) (at : ℕ) (l : at < length s) (b : List Baseline) (e : 
           serverinfo_moved i t f g =
               other_moved t (sym (g ∙ matched (held b e p x) (placed s) m (M.Serverinfo i) f))
 
-          pub rest_moved : (ks : List ℕ) → OneOf ks (tag_of Messages.the_type m) → T (not (has_key ks 10)) → T (not (has_key ks 20))
+          pub rest_moved : ((i : Serverinfo) → m ≡ M.Serverinfo i → ⊥) → ((i : Entity) (o : Look) (r : Pose) → m ≡ M.Baseline i o r → ⊥)
               → 7 ≢ get_or s at 0 → (y : Rest)
               → ((t : Tables) → Numbered m → scene_with no_tables y ≡ with_tables no_tables (apply (scene_with t x) (fill (scene_with t x) (values_of s m))))
               → Moved s (held b e p x) at (held b e p y) c.at other_form
           unfolding scene_with
-          rest_moved ks o n10 n20 n7 y f =
+          rest_moved ns nb n7 y f =
               let t = held b e p x in
               let numbered : Numbered m = read_numbered s at k m c h q z in
               let kept = tables_kept t (placed s) m
               (record {
                 time = λ v g. n7 (first 7 _ (ap (values_of s) g));
-                serverinfo = λ i. not_among ks m (M.Serverinfo i) o n10;
-                baseline = λ i o' r. not_among ks m (M.Baseline i o' r) o n20;
+                serverinfo = ns;
+                baseline = nb;
                 update = λ u g. no-update u g;
               }) in
               other_moved _

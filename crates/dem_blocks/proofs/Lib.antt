@@ -1,4 +1,6 @@
-pub mod Turns
 pub mod Arms
-pub mod SoFar
 pub mod Marks
+pub mod Places
+pub mod SoFar
+pub mod Steps
+pub mod Turns

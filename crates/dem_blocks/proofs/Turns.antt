@@ -13,7 +13,7 @@ use lib.Seq.{take-nil, drop-cons, drop-drop, length-take-le, sets, length-sets}
 use Rattle.format.specs.Bytes.{Bytes, Result, found, refused, map_result, bind, le_write}
 use Rattle.format.specs.Layout.{Value, number, print}
 use Rattle.dem.specs.Scene.{Scene, in_range}
-use Rattle.dem.specs.Message.{Message, fill, apply, normal as normalMessage}
+use Rattle.dem.specs.Message.{Message, fill, apply, normal as normal_message}
 use Rattle.format.specs.Codec.{after, stopped, WrittenRun, silent, roomless, led, write_on, write_most, read_all, fill_all, apply_all, Each, write_normal}
 use Rattle.format.specs.Codec.{normal_bytes, read_before}
 use Rattle.dem.specs.Recording.{read_message, messages, Block, angle_layout, block_of, read_body, read_block, write_block, normal_block, fill_block}
@@ -56,7 +56,7 @@ pub record Moved (s : List ℕ) (t : Scene) (at : ℕ) (t' : Scene) (to : ℕ) (
   pub values : List Value
   pub read : read_message t (drop at s) ≡ found values (drop to s)
   pub scene : apply t (fill t values) ≡ t'
-  pub normal : normal_bytes messages normalMessage t values ≡ form
+  pub normal : normal_bytes messages normal_message t values ≡ form
 
 module _ (s : List ℕ) (h : Bytes s) (t : Scene) (at : ℕ) (t' : Scene) (to : ℕ) (form : List ℕ) (m : Moved s t at t' to form) where
   taken : Taken messages GoodMessage t (drop at s) m.values (drop to s)
@@ -109,7 +109,7 @@ put_block_there false true out at angles body size e = refl
 put_block_there false false out at angles body size e = refl
 
 abbrev body_of : Bool → Scene → List Message → List ℕ
-body_of on t vs = cond on (write_normal messages normalMessage t (fill_all messages t vs)) []
+body_of on t vs = cond on (write_normal messages normal_message t (fill_all messages t vs)) []
 
 grown : (on : Bool) (a x y : List ℕ) → a ++ cond on (x ++ y) [] ≡ (a ++ cond on x []) ++ cond on y []
 grown true a x y = sym (append_assoc a x y)
@@ -119,7 +119,7 @@ formed : (on : Bool) (t : Scene) (angles : List Value) (vs : List Message) → E
     → block_form on t (block_of angles vs) ≡ block_bytes on angles (body_of on t vs)
 unfolding write_block normal_block fill_block
 formed true t angles vs g =
-    ap (λ (body : List ℕ). le_write 4 (length body) ++ (print angle_layout angles ++ body)) (all-normal messages GoodMessage normalMessage message_normalises t vs g).writes
+    ap (λ (body : List ℕ). le_write 4 (length body) ++ (print angle_layout angles ++ body)) (all-normal messages GoodMessage normal_message message_normalises t vs g).writes
 formed false t angles vs g = refl
 
 -- Inside the block from one place to another, behind b blocks and w bytes of the room, and behind which at most n more are read.
@@ -158,7 +158,7 @@ module _ (given : Scene) (d : List ℕ) (on stores : Bool) (room base b n start 
   inside_one m t body v (found vs rest) =
       let k : m + suc (length vs) ≡ m + 1 + length vs = omega arith in
       ap₂ (λ (k : ℕ) (x : List ℕ). closed k (after_all messages (after messages t v) vs) (block_bytes on angles x)) k
-      (grown on body (normal_bytes messages normalMessage t v) (write_normal messages normalMessage (after messages t v) (fill_all messages (after messages t v) vs)))
+      (grown on body (normal_bytes messages normal_message t v) (write_normal messages normal_message (after messages t v) (fill_all messages (after messages t v) vs)))
   inside_one m t body v (refused k left) = refl
 
   module _ (h : Bytes d) (in? : end ≤ length d) (m : ℕ) (t : Scene) (body : List ℕ) (at : ℕ) where

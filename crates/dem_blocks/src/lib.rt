@@ -1,11 +1,13 @@
 // Blocks one after the other, read and written in normal form in one loop that holds the scene.
+#![tactic(auto)]
+
 ghost use Rattle.std.specs.Prelude.{◌≡◌, List, [], ◌∷◌, ◌++◌, map, Bool, true, false, cond, not, ◌&&◌, ℕ, ◌+◌, ◌-◌, ◌≤◌, ◌<◌, ltb, length, take, drop};
 ghost use Rattle.dem.specs.Kind;
 ghost use Rattle.format.specs.Bytes.{le_write, bit_of};
 ghost use Rattle.format.specs.Layout.{number, print, tail};
 ghost use Rattle.dem.specs.Limits.{block_limit, entity_count, head_size};
 ghost use Rattle.dem.specs.Message.{layout, fill_update, send_update, fill_sound, send_sound, send_client};
-ghost use Rattle.dem.specs.Recording.{angle_layout, blocks as recordingBlocks};
+ghost use Rattle.dem.specs.Recording.{angle_layout, blocks as recording_blocks};
 ghost use Rattle.dem.specs.Scene.{Context, context_of, count_marks, in_range};
 ghost use Rattle.format.specs.Codec.{run_most};
 ghost use Rattle.wire.specs.Cursors.{gotten};
@@ -27,7 +29,7 @@ use wire::Cursor;
 
 // Blocks that were read: the scene after them, how many they and their messages are, and the place behind them; and the refusal met
 // there, 0 for none, and its place. With a refusal inside a block there are no messages, and the scene is the one given.
-#[derive(Drop)]
+#[derive(Clone, Copy)]
 pub struct BlocksAt {
     pub scene: Scene,
     pub blocks: usize,
@@ -38,7 +40,7 @@ pub struct BlocksAt {
 }
 
 // Also how many bytes were written of them.
-#[derive(Drop)]
+#[derive(Clone, Copy)]
 pub struct WrittenAt {
     pub read: BlocksAt,
     pub written: usize,
@@ -580,7 +582,7 @@ pub fn write_blocks(
 // The blocks from a place to the end, but at most so many.
 pub fn read_blocks(d: &[u8], from: usize, most: usize, given: Scene) -> BlocksAt
     requires { (from ≤ length d.now) × (in_range (scene_of given) ≡ true) }
-    ensures { answered result ≡ told_of (scene_of given) (length d.now) 0 0 (run_most recordingBlocks most (scene_of given) (drop from d.now)) }
+    ensures { answered result ≡ told_of (scene_of given) (length d.now) 0 0 (run_most recording_blocks most (scene_of given) (drop from d.now)) }
 {
     let mut nothing = [0u8; 1];
     let w = write_blocks(d, from, most, given, false, 0, &mut nothing, 0);

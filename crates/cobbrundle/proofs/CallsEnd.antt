@@ -13,7 +13,7 @@ use Rattle.dem.proofs.NormalCallLaws.{normal-track_within}
 use Rattle.dem_scene.specs.declared.Scene.{Scene}
 use Rattle.dem_scene.specs.Views.{scene_of}
 use Rattle.dem_recordings.specs.Replies.{track_answer_of, track_written_of}
-use Rattle.cobbrundle.specs.Calls.{Outcome, toEnd, toRefusal, ReadsMessage, MessageCall, MessageCalls, no_message, message_refused, next_message}
+use Rattle.cobbrundle.specs.Calls.{Outcome, to_end, to_refusal, ReadsMessage, MessageCall, MessageCalls, no_message, message_refused, next_message}
 use Rattle.cobbrundle.specs.Calls.{ReadsBlock, BlockCall, bytes_of, BlockCalls, no_block, block_refused, within_refused, next_block}
 use Rattle.cobbrundle.specs.Calls.{RecordingCalls, track_refused, behind_track, WritesBlock, NormalCalls, no_form, form_refused, next_form}
 use Rattle.cobbrundle.specs.Calls.{NormalRecordingCalls, line_refused, behind_line}
@@ -59,8 +59,8 @@ module _ (s : List ℕ) (bytes : Bytes s) (Holds : Scene → Type 0) where
       where
         go : (x : Scene) (at : ℕ) → ((y : Scene) (next : ℕ) → at < next → next ≤ length block → Holds y → SomeMessages block y next)
             → (a : MessageAnswer) (y : Scene) → Holds y → ReadsMessage x block at a y → SomeMessages block x at
-        go x at later M.End y p e = ([], y, toEnd, no_message e)
-        go x at later (M.Refused k q) y p e = ([], y, toRefusal, message_refused e)
+        go x at later M.End y p e = ([], y, to_end, no_message e)
+        go x at later (M.Refused k q) y p e = ([], y, to_refusal, message_refused e)
         go x at later (M.Found m f next) y p e =
             let c : MessageCall = record { scene = x; place = at; message = m; filled = f; next = next; after = y } in
             let on = message_moves block h c e in
@@ -85,17 +85,17 @@ module _ (s : List ℕ) (bytes : Bytes s) (Holds : Scene → Type 0) where
 
           behind : (x : Scene) (at : ℕ) (o : Outline) (y : Scene) → ReadsBlock x s at (B.Found o) y → (cs : List MessageCall) (left : Scene)
               (c : Outcome) → MessageCalls (bytes_of s o) x 0 cs left c → SomeBlocks y o.next → SomeBlocks x at
-          behind x at o y e cs left toRefusal m k =
+          behind x at o y e cs left to_refusal m k =
               let b : BlockCall = record { scene = x; place = at; outline = o; after = y; messages = cs; left = left } in
-              (b ∷ [], left, toRefusal, within_refused {b = b} e m)
-          behind x at o y e cs left toEnd m k =
+              (b ∷ [], left, to_refusal, within_refused {b = b} e m)
+          behind x at o y e cs left to_end m k =
               let b : BlockCall = record { scene = x; place = at; outline = o; after = y; messages = cs; left = left } in
               (b ∷ k.0, k.1, k.2, next_block {b = b} e m k.3)
 
           go : (x : Scene) → Holds x → (at : ℕ) → ((y : Scene) (next : ℕ) → at < next → next ≤ length s → Holds y → SomeBlocks y next)
               → (a : BlockAnswer) (y : Scene) → Holds y → ReadsBlock x s at a y → SomeBlocks x at
-          go x q at later B.End y p e = ([], y, toEnd, no_block e)
-          go x q at later (B.Refused k j) y p e = ([], y, toRefusal, block_refused e)
+          go x q at later B.End y p e = ([], y, to_end, no_block e)
+          go x q at later (B.Refused k j) y p e = ([], y, to_refusal, block_refused e)
           go x q at later (B.Found o) y p e =
               let b : BlockCall = record { scene = x; place = at; outline = o; after = y; messages = []; left = x } in
               let on = block_moves s bytes b e in
@@ -105,7 +105,7 @@ module _ (s : List ℕ) (bytes : Bytes s) (Holds : Scene → Type 0) where
       -- A recording is walked to an end.
       pub calls_end : (a : TrackAnswer) → track_answer_of a ≡ track_at s → (x : Scene) → Holds x → scene_of x ≡ fresh
           → (bs : List BlockCall) × (y : Scene) × (o : Outcome) × RecordingCalls s a bs y o
-      calls_end (T.Refused n p) e x h f = ([], x, toRefusal, track_refused e f)
+      calls_end (T.Refused n p) e x h f = ([], x, to_refusal, track_refused e f)
       calls_end (T.Found n next) e x h f =
           let k = blocks_end x next (track-told s bytes n next (sym e)).3 h in
           (k.0, k.1, k.2, behind_track e f k.3)
@@ -122,8 +122,8 @@ module _ (s : List ℕ) (bytes : Bytes s) (Holds : Scene → Type 0) where
         go : (x : Scene) (at : ℕ) (room : List ℕ)
             → ((y : Scene) (next : ℕ) → at < next → next ≤ length s → Holds y → (left : List ℕ) → SomeForms y next left)
             → (a : NormalAnswer) (out : List ℕ) (y : Scene) → Holds y → WritesBlock x s at room a y out → SomeForms x at room
-        go x at room later N.End out y p e = (y, 0, out, toEnd, no_form e)
-        go x at room later (N.Refused k j) out y p e = (y, 0, out, toRefusal, form_refused e)
+        go x at room later N.End out y p e = (y, 0, out, to_end, no_form e)
+        go x at room later (N.Refused k j) out y p e = (y, 0, out, to_refusal, form_refused e)
         go x at room later (N.Written size next) out y p e =
             let w = wrote_one s bytes x y at size next room out e in
             let k = later y next w.found.on w.found.within p (drop size out) in
@@ -132,7 +132,7 @@ module _ (s : List ℕ) (bytes : Bytes s) (Holds : Scene → Type 0) where
     -- Its normal form is asked for block by block to an end.
     pub normal_calls_end : (room : List ℕ) (a : TrackNormalAnswer) (mid : List ℕ) → track_written_of a mid ≡ track_normal s room → (x : Scene) → Holds x
         → scene_of x ≡ fresh → (y : Scene) × (n : ℕ) × (out : List ℕ) × (o : Outcome) × NormalRecordingCalls s room y n out o
-    normal_calls_end room (L.Refused k p) mid e x h f = (x, 0, mid, toRefusal, line_refused e f)
+    normal_calls_end room (L.Refused k p) mid e x h f = (x, 0, mid, to_refusal, line_refused e f)
     normal_calls_end room (L.Written size next) mid e x h f =
         let k = forms_end x next (normal-track_within s room bytes (record { length = size; next = next }) mid (sym e)) h (drop size mid) in
         (k.0, size + k.1, take size mid ++ k.2, k.3, behind_line e f k.4)

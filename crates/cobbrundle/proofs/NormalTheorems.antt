@@ -31,7 +31,7 @@ use Rattle.dem.proofs.NormalCallLaws.{NormalWritten, NormalUnwritten, normal-wri
 use Rattle.dem_scene.specs.declared.Scene.{Scene as Held}
 use Rattle.dem_scene.specs.Views.{scene_of}
 use Rattle.dem_messages.specs.Replies.{count_of, written_of}
-use Rattle.cobbrundle.specs.Calls.{Outcome, toEnd, toRefusal, WritesBlock, NormalCalls, no_form, form_refused, next_form}
+use Rattle.cobbrundle.specs.Calls.{Outcome, to_end, to_refusal, WritesBlock, NormalCalls, no_form, form_refused, next_form}
 use Rattle.cobbrundle.specs.Calls.{NormalRecordingCalls, line_refused, behind_line}
 use Rattle.dem_messages.specs.declared.WriteReply.{WriteReply}
 use Rattle.dem_messages.specs.declared.NormalAnswer.TheVariants as N
@@ -153,16 +153,16 @@ equal_exactly r r₂ room room₂ h h₂ a a₂ out out₂ p p₂ n n₂ c c₂ 
 -- Of a call for the track line and one for each block: they come to the end exactly if the recording is accepted and the room is enough for its
 -- normal form. That is then what they write, and the room behind it and the scene are those that one call of `normal_recording` leaves.
 pub record ByBlocks (r room : List ℕ) (y : Held) (n : ℕ) (out : List ℕ) (o : Outcome) : Type 0 where
-  pub exactly : (o ≡ toEnd) ↔ (Accepted r × (length (normal_form r) ≤ length room))
-  pub wrote : o ≡ toEnd → NormalWritten r room (scene_of y) n out
-  pub whole : o ≡ toEnd → (a : WriteReply) (all : List ℕ) → written_of a all ≡ whole_normal r room
+  pub exactly : (o ≡ to_end) ↔ (Accepted r × (length (normal_form r) ≤ length room))
+  pub wrote : o ≡ to_end → NormalWritten r room (scene_of y) n out
+  pub whole : o ≡ to_end → (a : WriteReply) (all : List ℕ) → written_of a all ≡ whole_normal r room
       → (count_of a.answer ≡ result n) × (all ≡ out) × (scene_of a.scene ≡ scene_of y)
 
 module _ (r : List ℕ) (h : Bytes r) where
   -- What the calls say of the blocks from a place on.
   abbrev FormsTold : Outcome → Held → ℕ → List ℕ → Held → ℕ → List ℕ → Type 0
-  FormsTold toEnd x at room y n out = AllWritten blocks normal_block (scene_of x) (drop at r) room (scene_of y) n out
-  FormsTold toRefusal x at room y n out = NoneWritten blocks normal_block (scene_of x) (drop at r) room
+  FormsTold to_end x at room y n out = AllWritten blocks normal_block (scene_of x) (drop at r) room (scene_of y) n out
+  FormsTold to_refusal x at room y n out = NoneWritten blocks normal_block (scene_of x) (drop at r) room
 
   module _ (x y : Held) (at size next : ℕ) (room mid : List ℕ) (e : WritesBlock x r at room (N.Written size next) y mid) where
     abbrev form : Normalised
@@ -176,8 +176,8 @@ module _ (r : List ℕ) (h : Bytes r) where
 
     form-led : (o : Outcome) (z : Held) (n : ℕ) (out : List ℕ) → FormsTold o y next (drop size mid) z n out
         → FormsTold o x at room z (size + n) (take size mid ++ out)
-    form-led toEnd z n out k = written_first blocks normal_block (scene_of x) r at room GoodBlock block_lawful h (scene_of y) form mid wrote_one (scene_of z) n out k
-    form-led toRefusal z n out k = none-behind blocks normal_block (scene_of x) r at room GoodBlock block_lawful h (scene_of y) form mid wrote_one k
+    form-led to_end z n out k = written_first blocks normal_block (scene_of x) r at room GoodBlock block_lawful h (scene_of y) form mid wrote_one (scene_of z) n out k
+    form-led to_refusal z n out k = none-behind blocks normal_block (scene_of x) r at room GoodBlock block_lawful h (scene_of y) form mid wrote_one k
 
   forms-told : {x y : Held} {at n : ℕ} {room out : List ℕ} {o : Outcome} → NormalCalls r x at room y n out o → in_range (scene_of x) ≡ true
       → at ≤ length r → FormsTold o x at room y n out
@@ -193,7 +193,7 @@ module _ (r : List ℕ) (h : Bytes r) where
       (forms-told w (one_range x y at size next room mid e i) (wrote_one x y at size next room mid e).found.within)
 
   module _ (room : List ℕ) where
-    came_through : (y : Held) (n : ℕ) (out : List ℕ) → NormalWritten r room (scene_of y) n out → ByBlocks r room y n out toEnd
+    came_through : (y : Held) (n : ℕ) (out : List ℕ) → NormalWritten r room (scene_of y) n out → ByBlocks r room y n out to_end
     came_through y n out w =
         record {
           exactly = (λ q. ((w.reads, w.accepted), w.fits), λ q. refl);
@@ -206,7 +206,7 @@ module _ (r : List ℕ) (h : Bytes r) where
               );
         }
 
-    came-short : (y : Held) (n : ℕ) (out : List ℕ) → NormalUnwritten r room → ByBlocks r room y n out toRefusal
+    came-short : (y : Held) (n : ℕ) (out : List ℕ) → NormalUnwritten r room → ByBlocks r room y n out to_refusal
     came-short y n out u =
         record {
           exactly = (λ q. clash (cc), λ q. let z : ⊥ = omega (arith, u q.0.0 q.0.1, q.1) in absurd z);
@@ -223,10 +223,10 @@ module _ (r : List ℕ) (h : Bytes r) where
         line = record { length = size; next = next }
 
         go : (o : Outcome) → FormsTold o x next (drop size mid) y n out → ByBlocks r room y (size + n) (take size mid ++ out) o
-        go toEnd k =
+        go to_end k =
             came_through y (size + n) (take size mid ++ out)
             (normal-written r room h line mid (sym e) (scene_of y) n out
             (subst (λ (v : Scene). AllWritten blocks normal_block v (drop next r) (drop size mid) (scene_of y) n out) f k))
-        go toRefusal k =
+        go to_refusal k =
             came-short y (size + n) (take size mid ++ out)
             (normal_unwritten r room h line mid (sym e) (subst (λ (v : Scene). NoneWritten blocks normal_block v (drop next r) (drop size mid)) f k))

@@ -42,7 +42,7 @@ use Rattle.dem_scene.specs.Views.{baseline_numbers, record_numbers, scene_with, 
 use Rattle.dem_scene.specs.contracts.Scene as SceneType
 use Rattle.dem_messages.specs.Replies.{count_of, written_of}
 use Rattle.dem_recordings.specs.Replies.{outline_of}
-use Rattle.cobbrundle.specs.Calls.{Outcome, toEnd, toRefusal, ReadsMessage, MessageCall, MessageCalls, no_message, message_refused, next_message}
+use Rattle.cobbrundle.specs.Calls.{Outcome, to_end, to_refusal, ReadsMessage, MessageCall, MessageCalls, no_message, message_refused, next_message}
 use Rattle.cobbrundle.specs.Calls.{ReadsBlock, BlockCall, bytes_of, BlockCalls, no_block, block_refused, within_refused, next_block}
 use Rattle.cobbrundle.specs.Calls.{RecordingCalls, track_refused, behind_track, message_sent, message_out, block_sent, block_out, recording_out}
 use Rattle.cobbrundle.specs.Calls.{Every, MessagesTile, BlocksTile}
@@ -90,10 +90,10 @@ pub record RecordingWalked (s : List ℕ) (a : TrackAnswer) (bs : List BlockCall
   -- What they hand out is the reading; there is none exactly if a call refuses.
   pub reads : reading s ≡ recording_out s a bs o
   -- They come to the end exactly if the bytes are well formed, and what they hand out as sent is the recording that has these bytes.
-  pub exactly : (o ≡ toEnd) ↔ WellFormed s
+  pub exactly : (o ≡ to_end) ↔ WellFormed s
   pub sent : (w : WellFormed s) → w.recording.blocks ≡ map (block_sent s) bs
   -- The blocks tile what is behind the track line, and lead to the scene after the recording.
-  pub tiles : (n : ℤ) (next : ℕ) → a ≡ T.Found n next → o ≡ toEnd → BlocksTile next bs (length s)
+  pub tiles : (n : ℤ) (next : ℕ) → a ≡ T.Found n next → o ≡ to_end → BlocksTile next bs (length s)
   pub scene : (R : Reading) → reading s ≡ some R → scene_of y ≡ scene_after R
   -- Each call, also before one that refuses.
   pub blocks : Every (BlockFound s) bs
@@ -107,10 +107,10 @@ held_shaped x vs p =
     let f = p.1.1 in
     let rest = f.1.1.1.1.0.1.1 in
     record {
-      baselines = length-map x.baselines baseline_numbers ∙ sym (length-map x.baselines _) ∙ f.0.1.0.1;
-      records = length-map x.records record_numbers ∙ sym (length-map x.records _) ∙ f.1.0.1.0.1;
-      present = sym (length-map x.present _) ∙ f.1.1.0.1.0.1;
-      stats = length-map x.rest.stats (of_z w32) ∙ sym (length-map x.rest.stats _) ∙ rest.0.1.0.1;
+      baselines = length-map x.baselines baseline_numbers ∙ f.0.1.0.1;
+      records = length-map x.records record_numbers ∙ f.1.0.1.0.1;
+      present = f.1.1.0.1.0.1;
+      stats = length-map x.rest.stats (of_z w32) ∙ rest.0.1.0.1;
     }
 
 -- Where it is in range, its number is that of its marks.
@@ -166,8 +166,8 @@ record MessagesDone (block : List ℕ) (x : Scene) (at : ℕ) (cs : List Message
   tiles : MessagesTile at cs (length block)
 
 abbrev MessagesTold : Outcome → List ℕ → Scene → ℕ → List MessageCall → Scene → Type 0
-MessagesTold toEnd block x at cs y = MessagesDone block x at cs y
-MessagesTold toRefusal block x at cs y = (n : ℕ) × (left : List ℕ) × (read_all messages (scene_of x) (drop at block) ≡ refused n left)
+MessagesTold to_end block x at cs y = MessagesDone block x at cs y
+MessagesTold to_refusal block x at cs y = (n : ℕ) × (left : List ℕ) × (read_all messages (scene_of x) (drop at block) ≡ refused n left)
 
 module _ (block : List ℕ) (bytes : Bytes block) where
   module _ (c : MessageCall) (read : ReadsMessage c.scene block c.place (M.Found c.message c.filled c.next) c.after)
@@ -185,7 +185,7 @@ module _ (block : List ℕ) (bytes : Bytes block) where
     -- A message in front of the others.
     led : (o : Outcome) → MessagesTold o block c.after c.next cs y → MessagesTold o block c.scene c.place (c ∷ cs) y
     unfolding fill_all apply_all
-    led toEnd d =
+    led to_end d =
         record {
           read = first ∙ ap (map_result (λ vs. message_sent block c ∷ vs)) d.read;
           out =
@@ -194,7 +194,7 @@ module _ (block : List ℕ) (bytes : Bytes block) where
           scene = d.scene ∙ ap (λ (v : Described). after_all messages v (map (message_sent block) cs)) (sym onward);
           tiles = (refl, i.on, d.tiles);
         }
-    led toRefusal d = (d.0, d.1, first ∙ ap (map_result (λ vs. message_sent block c ∷ vs)) d.2)
+    led to_refusal d = (d.0, d.1, first ∙ ap (map_result (λ vs. message_sent block c ∷ vs)) d.2)
 
   messages-told : {x y : Scene} {at : ℕ} {cs : List MessageCall} {o : Outcome} → MessageCalls block x at cs y o → in_range (scene_of x) ≡ true
       → Shaped (scene_of x) → at ≤ length block → MessagesTold o block x at cs y × Every (MessageFound block) cs
@@ -300,8 +300,8 @@ record BlocksDone (s : List ℕ) (x : Scene) (at : ℕ) (bs : List BlockCall) (y
   tiles : BlocksTile at bs (length s)
 
 abbrev BlocksTold : Outcome → List ℕ → Scene → ℕ → List BlockCall → Scene → Type 0
-BlocksTold toEnd s x at bs y = BlocksDone s x at bs y
-BlocksTold toRefusal s x at bs y = (n : ℕ) × (left : List ℕ) × (read_all blocks (scene_of x) (drop at s) ≡ refused n left)
+BlocksTold to_end s x at bs y = BlocksDone s x at bs y
+BlocksTold to_refusal s x at bs y = (n : ℕ) × (left : List ℕ) × (read_all blocks (scene_of x) (drop at s) ≡ refused n left)
 
 module _ (s : List ℕ) (bytes : Bytes s) where
   module _ (b : BlockCall) (read : ReadsBlock b.scene s b.place (B.Found b.outline) b.after)
@@ -317,7 +317,7 @@ module _ (s : List ℕ) (bytes : Bytes s) where
     -- A block in front of the others.
     block-led : (o : Outcome) → BlocksTold o s b.after b.outline.next bs y → BlocksTold o s b.scene b.place (b ∷ bs) y
     unfolding fill_all apply_all
-    block-led toEnd k =
+    block-led to_end k =
         record {
           read = first_block ∙ ap (map_result (λ vs. block_sent s b ∷ vs)) k.read;
           out =
@@ -327,7 +327,7 @@ module _ (s : List ℕ) (bytes : Bytes s) where
           scene = k.scene ∙ ap (λ (v : Described). after_all blocks v (map (block_sent s) bs)) (sym (block-after s bytes b read d));
           tiles = (refl, (block_moves s bytes b read).0, k.tiles);
         }
-    block-led toRefusal k = (k.0, k.1, first_block ∙ ap (map_result (λ vs. block_sent s b ∷ vs)) k.2)
+    block-led to_refusal k = (k.0, k.1, first_block ∙ ap (map_result (λ vs. block_sent s b ∷ vs)) k.2)
 
   blocks-told : {x y : Scene} {at : ℕ} {bs : List BlockCall} {o : Outcome} → BlockCalls s x at bs y o → in_range (scene_of x) ≡ true
       → Shaped (scene_of x) → at ≤ length s → BlocksTold o s x at bs y × Every (BlockFound s) bs
@@ -351,10 +351,10 @@ module _ (s : List ℕ) (bytes : Bytes s) where
       let later = blocks-told w r' h' (block_moves s bytes b e).1 in
       (block-led b e k.0 bs y o later.0, (f, later.1))
 
-  accepted-ends : (R : Reading) → reading s ≡ some R → (toEnd ≡ toEnd) ↔ WellFormed s
+  accepted-ends : (R : Reading) → reading s ≡ some R → (to_end ≡ to_end) ↔ WellFormed s
   accepted-ends R e = (λ q. (accepted_exactly s bytes).exactly.0 (R, e), λ w. refl)
 
-  refused-ends : reading s ≡ none → (toRefusal ≡ toEnd) ↔ WellFormed s
+  refused-ends : reading s ≡ none → (to_refusal ≡ to_end) ↔ WellFormed s
   refused-ends e = (λ q. clash (cc), λ w. let z = sym e ∙ (accepted_exactly s bytes).filled w in clash (cc))
 
   -- ---- DEMAND 2
@@ -380,7 +380,7 @@ module _ (s : List ℕ) (bytes : Bytes s) where
       found_by : (n : ℤ) (next : ℕ) (x y : Scene) (bs : List BlockCall) (o : Outcome) (line : TrackLine) → read_track s ≡ found line (drop next s)
           → track_number line ≡ n → scene_of x ≡ fresh → BlocksTold o s x next bs y → Every (BlockFound s) bs
           → RecordingWalked s (T.Found n next) bs y o
-      found_by n next x y bs toEnd line e m f d every =
+      found_by n next x y bs to_end line e m f d every =
           let R : Reading = record { track = n; blocks = map (block_out s) bs } in
           let all : read_all blocks fresh (drop next s) ≡ found (map (block_sent s) bs) [] =
           ap (λ (v : Described). read_all blocks v (drop next s)) (sym f) ∙ d.read in
@@ -398,7 +398,7 @@ module _ (s : List ℕ) (bytes : Bytes s) where
                 d.scene ∙ ap₂ (λ (v : Described) (fs : List Block). apply_all blocks v fs) f d.out ∙ ap scene_after z';
             blocks = every;
           }
-      found_by n next x y bs toRefusal line e m f d every =
+      found_by n next x y bs to_refusal line e m f d every =
           let refuses : reading s ≡ none =
           reading-refused s line (drop next s) e d.0 d.1 (ap (λ (v : Described). read_all blocks v (drop next s)) (sym f) ∙ d.2) in
           record {

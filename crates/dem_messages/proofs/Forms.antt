@@ -8,7 +8,6 @@ use mathlib.Core.Bool.{Bool, cond}
 use Prim.Native.Nat.{ℕ, ◌+◌, ◌-◌, ◌<◌, ◌≤◌}
 use native.Mathlib.Omega.{arith}
 use borrow.Author.Tests.{eq-eqb, ne_eqb}
-use types.Run.{OneOf}
 use lib.Dec.{eqb}
 use lib.ListN.{length, take, drop, length-take, length-drop}
 use lib.Seq.{sets, sets-eq, length-take-le}
@@ -17,7 +16,7 @@ use Rattle.dem.specs.Kind
 use Rattle.format.specs.Layout.{Value, number, print, tail}
 use Rattle.dem.specs.Scene.{Scene, Context, context_of, baseline_at}
 use Rattle.dem.specs.Message.{number_rule, kind_layout, layout, layout_in, fill_update, fill_client, fill_sound, send_update, send_client, send_sound, fill, normal}
-use Rattle.dem.specs.Message.{normal as normalMessage}
+use Rattle.dem.specs.Message.{normal as normal_message}
 use Rattle.format.specs.Codec.{normal_bytes}
 use Rattle.dem.specs.Recording.{write_message, messages}
 use Rattle.dem.specs.WellFormed.{GoodMessage}
@@ -29,14 +28,14 @@ use Rattle.format.proofs.LayoutLaws.{field-length}
 use Rattle.dem.proofs.MessageLaws.{fill-update, fill-client}
 use Rattle.wire.specs.Cursors.{placed}
 use Rattle.wire.specs.declared.Text.{Text}
-use Rattle.dem_types.proofs.ByNumber.{place_of, update_place, not_among}
+use Rattle.dem_types.proofs.ByNumber.{update_place, not_at}
 use Rattle.dem_types.specs.declared.Message.{Message as Sent}
 use Rattle.dem_types.specs.declared.Message.TheVariants as M
 use Rattle.dem_types.specs.declared.Clientdata.{Clientdata}
 use Rattle.dem_types.specs.declared.Sound.{Sound}
 use Rattle.dem_types.specs.declared.Update.{Update}
 use Rattle.dem_types.specs.Places.{values_to}
-use Rattle.dem_types.specs.Values.{values_of, values_by, sound_values, update_values, client_values as sentClientValues}
+use Rattle.dem_types.specs.Values.{values_of, values_by, sound_values, update_values, client_values as sent_client_values}
 use Rattle.dem_scene.specs.Views.{Numbered, baseline_numbers, record_values, client_values, filled_sound_values, scene_of, filled_by}
 use Rattle.dem_scene.specs.declared.Baseline.{Baseline}
 use Rattle.dem_scene.specs.declared.Client.{Client}
@@ -45,7 +44,6 @@ use Rattle.dem_scene.specs.declared.FilledSound.{FilledSound}
 use Rattle.dem_scene.specs.declared.Record.{Record}
 use Rattle.dem_scene.specs.declared.Scene.{Scene as Held}
 use Rattle.dem_normal.specs.Put.{Put}
-use Rattle.dem_scene.proofs.Filling.{plain}
 use Rattle.dem_normal.proofs.PlainForm.{plain_form}
 use Rattle.dem_normal.proofs.SoundBytes.{sound-sent}
 use Rattle.dem_messages.specs.Replies.{answer_of, reply_of}
@@ -73,14 +71,14 @@ module _ (before form : List ℕ) (size : ℕ) (read bytes : List ℕ) (p : Put 
 
 module _ (t : Scene) (f : Text → List ℕ) (m : Sent) (before form : List ℕ) (size : ℕ) where
   abbrev Chosen : Type 0
-  Chosen = normal_bytes messages normalMessage t (values_by f m) ≡ chosen size (write_message t (values_by f m)) form
+  Chosen = normal_bytes messages normal_message t (values_by f m) ≡ chosen size (write_message t (values_by f m)) form
 
-  pub client_chosen : (d : Clientdata) (k : Client) → m ≡ M.Clientdata d → number Kind.clientdata ∷ client_values k ≡ fill_client (sentClientValues d)
+  pub client_chosen : (d : Clientdata) (k : Client) → m ≡ M.Clientdata d → number Kind.clientdata ∷ client_values k ≡ fill_client (sent_client_values d)
       → Put before form 0 size (print (layout_in t) (send_client (client_values k))) → Chosen
   unfolding normal write_message
   client_chosen d k e g p =
       ap (λ (n : Sent). print (layout_in t) (normal t (fill t (values_by f n)))) e
-      ∙ ap (λ (vs : List Value). print (layout_in t) (normal t vs)) (fill-client t (sentClientValues d) ∙ sym g)
+      ∙ ap (λ (vs : List Value). print (layout_in t) (normal t vs)) (fill-client t (sent_client_values d) ∙ sym g)
       ∙ put_chosen before form size (print (layout_in t) (values_by f m)) _ p (some_bytes (context_of t) _ _)
 
   pub update_chosen : Numbered m → (u : Update) (b : Baseline) (r : Record) → m ≡ M.Update u → baseline_numbers b ≡ baseline_at t u.entity.0
@@ -104,14 +102,15 @@ module _ (t : Scene) (f : Text → List ℕ) (m : Sent) (before form : List ℕ)
       → Put before form 0 size (print (layout_in t) (send_sound (filled_sound_values k))) → Chosen
   unfolding normal fill write_message read
   sound_chosen v k e g p =
-      ap (λ (n : Sent). normal_bytes messages normalMessage t (values_by f n)) e ∙ sym (sound-sent (context_of t) v k g)
+      ap (λ (n : Sent). normal_bytes messages normal_message t (values_by f n)) e ∙ sym (sound-sent (context_of t) v k g)
       ∙ put_chosen before form size read _ p (some_bytes (context_of t) _ _)
 
-  pub none_chosen : OneOf plain (place_of m) → size ≡ 0 → Chosen
+  -- Of a message that is none of the three.
+  pub none_chosen : ((d : Clientdata) → m ≢ M.Clientdata d) → ((u : Update) → m ≢ M.Update u) → ((v : Sound) → m ≢ M.Sound v) → size ≡ 0 → Chosen
   unfolding read
-  none_chosen h z =
-      let w = not_among plain m h in
-      plain_form t f m (w 5 tt) (w 14 tt) (w update_place tt) ∙ sym (ap (λ (b : Bool). cond b read (take size form)) (eq-eqb size 0 z))
+  none_chosen client update sound z =
+      plain_form t f m (not_at 5 m (λ x e. sound x.0 e)) (not_at 14 m (λ x e. client x.0 e)) (not_at update_place m (λ x e. update x.0 e))
+      ∙ sym (ap (λ (b : Bool). cond b read (take size form)) (eq-eqb size 0 z))
 
 -- ---- into the room
 
@@ -147,10 +146,10 @@ module _ (t u : Scene) (text room : List ℕ) (start len next : ℕ) (h : start 
 module _ (scene : Held) (s : List ℕ) (at : ℕ) (room : List ℕ) (r : MessageReply) (read : reply_of s r ≡ message_at (scene_of scene) s at) where
   -- What the reader's answer says of the normal form.
   pub answered : (a : MessageAnswer) → r.answer ≡ a
-      → normal_of messages normalMessage (scene_of scene) s (scene_of r.scene) room (answer_of s a) ≡ normal_at messages normalMessage (scene_of scene) s at room
+      → normal_of messages normal_message (scene_of scene) s (scene_of r.scene) room (answer_of s a) ≡ normal_at messages normal_message (scene_of scene) s at room
   unfolding normal_at
   answered a e =
-      ap (λ (q : Reply Scene (Item (List Value) (List Value))). normal_of messages normalMessage (scene_of scene) s q.scene room q.answer)
+      ap (λ (q : Reply Scene (Item (List Value) (List Value))). normal_of messages normal_message (scene_of scene) s q.scene room q.answer)
       (ap (λ (x : MessageAnswer). reply (scene_of r.scene) (answer_of s x)) (sym e) ∙ read)
 
   module _ (bytes : Bytes s) (m : Sent) (f : Filled) (next : ℕ) (was : r.answer ≡ Found m f next) where
@@ -167,8 +166,8 @@ module _ (scene : Held) (s : List ℕ) (at : ℕ) (room : List ℕ) (r : Message
     numbered = allowed_numbered (context_of (scene_of scene)) (placed s) m it.good.allowed
 
     -- With the bytes of its normal form.
-    formed : (form : List ℕ) (n : ℕ) → normal_bytes messages normalMessage (scene_of scene) (values_of s m) ≡ form → length form ≡ n
-        → into_room (scene_of scene) (told (scene_of r.scene) n next) form room ≡ normal_at messages normalMessage (scene_of scene) s at room
+    formed : (form : List ℕ) (n : ℕ) → normal_bytes messages normal_message (scene_of scene) (values_of s m) ≡ form → length form ≡ n
+        → into_room (scene_of scene) (told (scene_of r.scene) n next) form room ≡ normal_at messages normal_message (scene_of scene) s at room
     formed form n e l =
         let t = scene_of scene in
         let same : form ≡ write_message t (normal t (filled_by (values_to s next) f)) = sym e ∙ ap (λ (vs : List Value). write_message t (normal t vs)) (sym it.filled) in
@@ -176,9 +175,9 @@ module _ (scene : Held) (s : List ℕ) (at : ℕ) (room : List ℕ) (r : Message
         ∙ ap (λ (bs : List ℕ). into_room t (told (scene_of r.scene) (length bs) next) bs room) same
         ∙ answered (Found m f next) was
 
-    module _ (size : ℕ) (form : List ℕ) (p : (g : Text → List ℕ) → Numbered m → normal_bytes messages normalMessage (scene_of scene) (values_by g m) ≡ chosen size (write_message (scene_of scene) (values_by g m)) form) where
+    module _ (size : ℕ) (form : List ℕ) (p : (g : Text → List ℕ) → Numbered m → normal_bytes messages normal_message (scene_of scene) (values_by g m) ≡ chosen size (write_message (scene_of scene) (values_by g m)) form) where
       pub as_read : size ≡ 0
-          → into_room (scene_of scene) (told (scene_of r.scene) (next - at) next) (take (next - at) (drop at s)) room ≡ normal_at messages normalMessage (scene_of scene) s at room
+          → into_room (scene_of scene) (told (scene_of r.scene) (next - at) next) (take (next - at) (drop at s)) room ≡ normal_at messages normal_message (scene_of scene) s at room
       as_read z =
           let b = write_message (scene_of scene) (values_of s m) in
           formed (take (next - at) (drop at s)) (next - at)
@@ -186,7 +185,7 @@ module _ (scene : Held) (s : List ℕ) (at : ℕ) (room : List ℕ) (r : Message
           (part_length (scene_of scene) (scene_of scene) s room at (next - at) next place_after_lem.1)
 
       pub anew : size ≢ 0 → size ≤ length form
-          → into_room (scene_of scene) (told (scene_of r.scene) size next) (take size (drop 0 form)) room ≡ normal_at messages normalMessage (scene_of scene) s at room
+          → into_room (scene_of scene) (told (scene_of r.scene) size next) (take size (drop 0 form)) room ≡ normal_at messages normal_message (scene_of scene) s at room
       anew z l =
           let b = write_message (scene_of scene) (values_of s m) in
           formed (take size form) size

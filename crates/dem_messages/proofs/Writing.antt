@@ -18,7 +18,6 @@ use Rattle.format.proofs.LayoutLaws.{Allowed, allows→}
 use Rattle.wire.specs.declared.Text.{Text}
 use Rattle.wire.specs.Cursors.{text_in, placed}
 use Rattle.dem_types.specs.declared.Message.{Message as Sent}
-use Rattle.dem_types.specs.declared.Message.TheVariants as M
 use Rattle.dem_types.specs.Values.{values_by}
 use Rattle.dem_scene.specs.Views.{Numbered}
 use Rattle.dem.proofs.ShapeLaws.{update_numbered}

@@ -1,10 +1,12 @@
 // The entries over one message: any bytes, any scene and any record get an answer. None has a `requires`.
+#![tactic(auto)]
+
 ghost use Rattle.std.specs.Prelude.{◌≡◌, List, cond, ℕ, ◌+◌, ◌-◌, ◌≤◌, eqb, length, take, drop};
 ghost use Rattle.dem.specs.Scene.{fresh};
 ghost use Rattle.format.specs.Codec.{normal_bytes};
-ghost use Rattle.dem.specs.Message.{normal as normalMessage};
+ghost use Rattle.dem.specs.Message.{normal as normal_message};
 ghost use Rattle.dem.specs.Recording.{write_message, messages};
-ghost use Rattle.format.specs.Answer.{reply, result, into_room, normal_at};
+ghost use Rattle.format.specs.Answer.{reply, result as a_result, into_room, normal_at};
 ghost use Rattle.dem.specs.Answer.{message_at, write_sent};
 ghost use Rattle.dem_scene.specs.Views.{scene_of, Numbered};
 ghost use Rattle.dem_types.specs.Values.{values_by};
@@ -17,7 +19,7 @@ use dem_types::Message;
 use format::refusal::{AFTER_DISCONNECT, CUT_MESSAGE, SHORT_ROOM, UNREADABLE, WRONG_SCENE};
 
 // A message as sent, its filled-in form and the place of what follows it; or "end"; or a refusal's number and place.
-#[derive(Drop)]
+#[derive(Clone, Copy)]
 pub enum MessageAnswer {
     Found(Message, Filled, usize),
     End,
@@ -25,21 +27,21 @@ pub enum MessageAnswer {
 }
 
 // With a refusal and at the end, the scene given.
-#[derive(Drop)]
+#[derive(Clone, Copy)]
 pub struct MessageReply {
     pub answer: MessageAnswer,
     pub scene: Scene,
 }
 
 // The number of bytes written; or a refusal's number and place.
-#[derive(Drop)]
+#[derive(Clone, Copy)]
 pub enum WriteAnswer {
     Written(usize),
     Refused(u8, usize),
 }
 
 // With a refusal, the scene given.
-#[derive(Drop)]
+#[derive(Clone, Copy)]
 pub struct WriteReply {
     pub answer: WriteAnswer,
     pub scene: Scene,
@@ -47,14 +49,14 @@ pub struct WriteReply {
 
 // The scene at the start.
 pub fn start() -> Scene
-    ensures* { λ r. ⌜ scene_of r ≡ fresh ⌝ }
+    ensures { scene_of result ≡ fresh }
 {
     dem_scene::cleared_scene(0)
 }
 
 // The place of the bytes that are left from a cursor on.
 fn place(len: usize, at: usize) -> usize
-    ensures* { λ r. ⌜ r ≡ len - (len - at) ⌝ }
+    ensures { result ≡ len - (len - at) }
 {
     if at <= len {
         return at;
@@ -64,7 +66,7 @@ fn place(len: usize, at: usize) -> usize
 
 // The message at a place of a block's bytes, in a scene.
 pub fn read_message_at(scene: Scene, bytes: &[u8], at: usize) -> MessageReply
-    ensures* { λ r. ⌜ reply_of bytes.now r ≡ message_at (scene_of scene) bytes.now at ⌝ }
+    ensures { reply_of bytes.now result ≡ message_at (scene_of scene) bytes.now at }
 {
     let rest = scene.rest;
     let present = scene.present;
@@ -114,7 +116,7 @@ pub fn read_message_at(scene: Scene, bytes: &[u8], at: usize) -> MessageReply
 // A message as sent into lent room, its strings being places in a lent text. With a refusal nothing is written; what is behind the
 // message stays.
 pub fn write_message(scene: Scene, message: Message, text: &[u8], room: &mut [u8]) -> WriteReply
-    ensures* { λ r. ⌜ written_of r room.new ≡ write_sent (scene_of scene) (values_by (placed text.now) message) room.old ⌝ }
+    ensures { written_of result room.new ≡ write_sent (scene_of scene) (values_by (placed text.now) message) room.old }
 {
     let rest = scene.rest;
     let present = scene.present;
@@ -154,7 +156,7 @@ pub fn write_message(scene: Scene, message: Message, text: &[u8], room: &mut [u8
 // ---- normal forms
 
 // The number of bytes written and the place of what follows what they were read from; or "end"; or a refusal's number and place.
-#[derive(Drop)]
+#[derive(Clone, Copy)]
 pub enum NormalAnswer {
     Written(usize, usize),
     End,
@@ -162,7 +164,7 @@ pub enum NormalAnswer {
 }
 
 // With a refusal and at the end, the scene given.
-#[derive(Drop)]
+#[derive(Clone, Copy)]
 pub struct NormalReply {
     pub answer: NormalAnswer,
     pub scene: Scene,
@@ -174,8 +176,8 @@ const FORM_SIZE: usize = 32;
 // The normal form of a message with a mask, and its size. Every other message is its own normal form, and its size here is 0.
 fn masked_form(scene: Scene, message: Message, form: &mut [u8]) -> usize
     requires { 32 ≤ length form.old }
-    ensures* fact { λ r. ⌜ ((t : Text → List ℕ) → Numbered message → normal_bytes messages normalMessage (scene_of scene) (values_by t message) ≡ cond (eqb r 0) (write_message (scene_of scene) (values_by t message)) (take r form.new)) ⌝ }
-    ensures* within { λ r. ⌜ r ≤ length form.new ⌝ }
+    ensures fact { (t : Text → List ℕ) → Numbered message → normal_bytes messages normal_message (scene_of scene) (values_by t message) ≡ cond (eqb result 0) (write_message (scene_of scene) (values_by t message)) (take result form.new) }
+    ensures within { result ≤ length form.new }
 {
     match message {
         Message::Clientdata(d) => dem_normal::put_client(form, 0, dem_scene::fill_client(d)),
@@ -201,7 +203,7 @@ fn into_room(
     next: usize,
 ) -> NormalReply
     requires { start + len ≤ length text.now }
-    ensures* { λ r. ⌜ normal_reply_of r room.new ≡ into_room (scene_of scene) (reply (scene_of after) (result (record { length = len; next = next }))) (take len (drop start text.now)) room.old ⌝ }
+    ensures { normal_reply_of result room.new ≡ into_room (scene_of scene) (reply (scene_of after) (a_result (record { length = len; next = next }))) (take len (drop start text.now)) room.old }
 {
     if room.len() < len {
         return NormalReply {
@@ -219,7 +221,7 @@ fn into_room(
 // The normal form of the message at a place of a block's bytes, in a scene, into lent room. With a refusal nothing is written; what is
 // behind the message stays.
 pub fn normal_message_at(scene: Scene, bytes: &[u8], at: usize, room: &mut [u8]) -> NormalReply
-    ensures* { λ r. ⌜ normal_reply_of r room.new ≡ normal_at messages normalMessage (scene_of scene) bytes.now at room.old ⌝ }
+    ensures { normal_reply_of result room.new ≡ normal_at messages normal_message (scene_of scene) bytes.now at room.old }
 {
     let m = read_message_at(scene, bytes, at);
     let answer = m.answer;

@@ -17,7 +17,7 @@ use mir.ValLaws.{to_z-of_z}
 use Rattle.format.specs.Bytes.{Bytes, map_result}
 use Rattle.dem.specs.Scene.{Scene, fresh}
 use Rattle.format.specs.Codec.{Run, WrittenRun, normal_bytes}
-use Rattle.dem.specs.Track.{TrackLine, read_track, track_number, normal_track, writeTrack}
+use Rattle.dem.specs.Track.{TrackLine, read_track, track_number, normal_track, write_track}
 use Rattle.dem.specs.Recording.{Block, blocks, normal_block}
 use Rattle.format.specs.Answer.{result, refusal, reply, written, into_room}
 use Rattle.dem.specs.Answer.{track_normal, whole_normal}
@@ -48,7 +48,7 @@ small_fits (negsuc n) h = record { sfits = omega arith }
 
 -- The normal line of a number, as code hands it on.
 abbrev pub line_bytes : TrackAt → List ℕ
-line_bytes t = writeTrack (normal_track (to_z w16 (of_z w16 t.number)))
+line_bytes t = write_track (normal_track (to_z w16 (of_z w16 t.number)))
 
 module _ (s : List ℕ) (h : Bytes s) (t : TrackAt) (q : line_of s t ≡ map_result track_number (read_track s)) (l : t.at ≤ length s) where
   pub line_wrong : t.refusal ≢ 0 → (room : List ℕ) → track_normal s room ≡ written (reply tt (refusal t.refusal t.at)) room
@@ -71,8 +71,8 @@ module _ (s : List ℕ) (h : Bytes s) (t : TrackAt) (q : line_of s t ≡ map_res
     abbrev line : TrackLine
     line = (track-found s t q z).0
 
-    line_is_lem : writeTrack (normal_track (track_number line)) ≡ line_bytes t
-    line_is_lem = ap (λ (n : ℤ). writeTrack (normal_track n)) ((track-found s t q z).2 ∙ sym same_number)
+    line_is_lem : write_track (normal_track (track_number line)) ≡ line_bytes t
+    line_is_lem = ap (λ (n : ℤ). write_track (normal_track n)) ((track-found s t q z).2 ∙ sym same_number)
 
     -- The normal line is no longer than the line that was read.
     line-short : length (line_bytes t) + length (drop t.at s) ≤ length s

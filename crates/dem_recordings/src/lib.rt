@@ -1,8 +1,10 @@
 // The entries over track lines, blocks and recordings: any bytes and any scene get an answer. None has a `requires`.
+#![tactic(auto)]
+
 ghost use Rattle.std.specs.Prelude.{◌≡◌, true, ◌≤◌, length, drop};
 ghost use Rattle.dem.specs.Scene.{fresh};
-ghost use Rattle.dem.specs.Recording.{blocks as recordingBlocks, normal_block};
-ghost use Rattle.format.specs.Answer.{reply, result, normal_at};
+ghost use Rattle.dem.specs.Recording.{blocks as recording_blocks, normal_block};
+ghost use Rattle.format.specs.Answer.{reply, result as a_result, normal_at};
 ghost use Rattle.dem.specs.Answer.{track_at, outline_at, blocks_at, whole, normal_blocks_at, track_normal, whole_normal};
 ghost use Rattle.dem_scene.specs.Views.{scene_of};
 ghost use Rattle.dem_blocks.specs.Runs.{stored, wrote_of, run_of, wrote};
@@ -16,14 +18,14 @@ use dem_scene::Scene;
 use format::refusal::{CUT_MESSAGE, SHORT_ROOM, WRONG_SCENE};
 
 // A track number and the place of what follows its line; or a refusal's number and place.
-#[derive(Drop)]
+#[derive(Clone, Copy)]
 pub enum TrackAnswer {
     Found(i16, usize),
     Refused(u8, usize),
 }
 
 // A block's angles by their bits, the place and the number of its messages, and the place of what follows it.
-#[derive(Drop)]
+#[derive(Clone, Copy)]
 pub struct Outline {
     pub angle0: u32,
     pub angle1: u32,
@@ -33,7 +35,7 @@ pub struct Outline {
     pub next: usize,
 }
 
-#[derive(Drop)]
+#[derive(Clone, Copy)]
 pub enum BlockAnswer {
     Found(Outline),
     End,
@@ -41,14 +43,14 @@ pub enum BlockAnswer {
 }
 
 // With a refusal and at the end, the scene given.
-#[derive(Drop)]
+#[derive(Clone, Copy)]
 pub struct BlockReply {
     pub answer: BlockAnswer,
     pub scene: Scene,
 }
 
 // Of a run of blocks: how many were read, and their messages; the place behind them; the refusal met there, 0 for none, and its place.
-#[derive(Drop)]
+#[derive(Clone, Copy)]
 pub struct Progress {
     pub blocks: usize,
     pub messages: usize,
@@ -57,28 +59,28 @@ pub struct Progress {
     pub place: usize,
 }
 
-#[derive(Drop)]
+#[derive(Clone, Copy)]
 pub enum BlocksAnswer {
     Read(Progress),
     Refused(u8, usize),
 }
 
 // The scene after the blocks that were read.
-#[derive(Drop)]
+#[derive(Clone, Copy)]
 pub struct BlocksReply {
     pub answer: BlocksAnswer,
     pub scene: Scene,
 }
 
 // A recording's track number, blocks and messages; or a refusal's number and place.
-#[derive(Drop)]
+#[derive(Clone, Copy)]
 pub enum RecordingAnswer {
     Read(i16, usize, usize),
     Refused(u8, usize),
 }
 
 // With a refusal, the scene at the start.
-#[derive(Drop)]
+#[derive(Clone, Copy)]
 pub struct RecordingReply {
     pub answer: RecordingAnswer,
     pub scene: Scene,
@@ -86,7 +88,7 @@ pub struct RecordingReply {
 
 // The track line at the front of a recording.
 pub fn read_track(bytes: &[u8]) -> TrackAnswer
-    ensures* { λ r. ⌜ track_answer_of r ≡ track_at bytes.now ⌝ }
+    ensures { track_answer_of result ≡ track_at bytes.now }
 {
     let t = dem_framing::read_track(bytes);
     let refusal = t.refusal;
@@ -98,7 +100,7 @@ pub fn read_track(bytes: &[u8]) -> TrackAnswer
 
 // The block at a place of a recording, in a scene.
 pub fn read_block_at(scene: Scene, bytes: &[u8], at: usize) -> BlockReply
-    ensures* { λ r. ⌜ block_reply_of r ≡ outline_at (scene_of scene) bytes.now at ⌝ }
+    ensures { block_reply_of result ≡ outline_at (scene_of scene) bytes.now at }
 {
     let rest = scene.rest;
     let present = scene.present;
@@ -146,7 +148,7 @@ pub fn read_block_at(scene: Scene, bytes: &[u8], at: usize) -> BlockReply
 
 // What is told of blocks that were read, and of the refusal met behind them.
 fn told(b: BlocksAt, refusal: u8, place: usize) -> BlocksReply
-    ensures* { λ r. ⌜ blocks_reply_of r ≡ reply (scene_of b.scene) (result (record { blocks = b.blocks; messages = b.messages; next = b.next; refusal = refusal; place = place })) ⌝ }
+    ensures { blocks_reply_of result ≡ reply (scene_of b.scene) (a_result (record { blocks = b.blocks; messages = b.messages; next = b.next; refusal = refusal; place = place })) }
 {
     let passed = Progress {
         blocks: b.blocks,
@@ -165,7 +167,7 @@ fn told(b: BlocksAt, refusal: u8, place: usize) -> BlocksReply
 // As many whole blocks as there are from a place of a recording on, in a scene. Where a message is refused, the blocks before its own
 // are read again, for the scene that they lead to.
 pub fn read_blocks_at(scene: Scene, bytes: &[u8], at: usize) -> BlocksReply
-    ensures* { λ r. ⌜ blocks_reply_of r ≡ blocks_at (scene_of scene) bytes.now at ⌝ }
+    ensures { blocks_reply_of result ≡ blocks_at (scene_of scene) bytes.now at }
 {
     let rest = scene.rest;
     let present = scene.present;
@@ -196,7 +198,7 @@ pub fn read_blocks_at(scene: Scene, bytes: &[u8], at: usize) -> BlocksReply
 
 // A whole recording.
 pub fn read_recording(bytes: &[u8]) -> RecordingReply
-    ensures* { λ r. ⌜ recording_reply_of r ≡ whole bytes.now ⌝ }
+    ensures { recording_reply_of result ≡ whole bytes.now }
 {
     let t = dem_framing::read_track(bytes);
     let wrong = t.refusal;
@@ -224,20 +226,20 @@ pub fn read_recording(bytes: &[u8]) -> RecordingReply
 // ---- normal forms
 
 // Of blocks in normal form: also the number of the bytes written.
-#[derive(Drop)]
+#[derive(Clone, Copy)]
 pub struct Rewriting {
     pub progress: Progress,
     pub length: usize,
 }
 
-#[derive(Drop)]
+#[derive(Clone, Copy)]
 pub enum RewriteAnswer {
     Written(Rewriting),
     Refused(u8, usize),
 }
 
 // The scene after the blocks that were written.
-#[derive(Drop)]
+#[derive(Clone, Copy)]
 pub struct RewriteReply {
     pub answer: RewriteAnswer,
     pub scene: Scene,
@@ -245,7 +247,7 @@ pub struct RewriteReply {
 
 // What is told of blocks that were written, of the refusal met behind them and of the number of their bytes.
 fn told_written(b: BlocksAt, refusal: u8, place: usize, length: usize) -> RewriteReply
-    ensures* { λ r. ⌜ reply (scene_of r.scene) (rewrite_answer_of r.answer) ≡ reply (scene_of b.scene) (result (record { progress = record { blocks = b.blocks; messages = b.messages; next = b.next; refusal = refusal; place = place }; length = length })) ⌝ }
+    ensures { reply (scene_of result.scene) (rewrite_answer_of result.answer) ≡ reply (scene_of b.scene) (a_result (record { progress = record { blocks = b.blocks; messages = b.messages; next = b.next; refusal = refusal; place = place }; length = length })) }
 {
     let progress = Progress {
         blocks: b.blocks,
@@ -264,7 +266,7 @@ fn told_written(b: BlocksAt, refusal: u8, place: usize, length: usize) -> Rewrit
 // The normal forms of as many whole blocks as there are from a place of a recording on and the lent room takes, in a scene. Where a message
 // is refused or room is short, the blocks before are read again, for the scene that they lead to.
 pub fn normal_blocks_at(scene: Scene, bytes: &[u8], at: usize, room: &mut [u8]) -> RewriteReply
-    ensures* { λ r. ⌜ rewrite_reply_of r room.new ≡ normal_blocks_at (scene_of scene) bytes.now at room.old ⌝ }
+    ensures { rewrite_reply_of result room.new ≡ normal_blocks_at (scene_of scene) bytes.now at room.old }
 {
     let rest = scene.rest;
     let present = scene.present;
@@ -295,7 +297,7 @@ pub fn normal_blocks_at(scene: Scene, bytes: &[u8], at: usize, room: &mut [u8]) 
 // The normal form of the block at a place of a recording, in a scene, into lent room. With a refusal nothing is written; what is behind the
 // normal form stays.
 pub fn normal_block_at(scene: Scene, bytes: &[u8], at: usize, room: &mut [u8]) -> NormalReply
-    ensures* { λ r. ⌜ normal_reply_of r room.new ≡ normal_at recordingBlocks normal_block (scene_of scene) bytes.now at room.old ⌝ }
+    ensures { normal_reply_of result room.new ≡ normal_at recording_blocks normal_block (scene_of scene) bytes.now at room.old }
 {
     let rest = scene.rest;
     let present = scene.present;
@@ -334,7 +336,7 @@ pub fn normal_block_at(scene: Scene, bytes: &[u8], at: usize, room: &mut [u8]) -
 }
 
 // The number of bytes written and the place of what follows the line; or a refusal's number and place.
-#[derive(Drop)]
+#[derive(Clone, Copy)]
 pub enum TrackNormalAnswer {
     Written(usize, usize),
     Refused(u8, usize),
@@ -342,7 +344,7 @@ pub enum TrackNormalAnswer {
 
 // The normal form of the track line, into lent room. With a refusal nothing is written; what is behind the line stays.
 pub fn normal_track(bytes: &[u8], room: &mut [u8]) -> TrackNormalAnswer
-    ensures* { λ r. ⌜ track_written_of r room.new ≡ track_normal bytes.now room.old ⌝ }
+    ensures { track_written_of result room.new ≡ track_normal bytes.now room.old }
 {
     let t = dem_framing::read_track(bytes);
     let refusal = t.refusal;
@@ -361,7 +363,7 @@ pub fn normal_track(bytes: &[u8], room: &mut [u8]) -> TrackNormalAnswer
 // The normal forms of all blocks from a place of a recording on, into at most so much room from a place of it on.
 fn write_all(bytes: &[u8], at: usize, limit: usize, room: &mut [u8], base: usize) -> WrittenAt
     requires { (at ≤ length bytes.now) × (base ≤ length room.old) }
-    ensures* { λ r. ⌜ wrote r room.new ≡ wrote_of fresh (length bytes.now) (stored room.old base limit) base 0 0 0 room.old (run_of true (length bytes.now) limit fresh (drop at bytes.now)) ⌝ }
+    ensures { wrote result room.new ≡ wrote_of fresh (length bytes.now) (stored room.old base limit) base 0 0 0 room.old (run_of true (length bytes.now) limit fresh (drop at bytes.now)) }
 {
     dem_blocks::write_blocks(bytes, at, bytes.len(), start(), true, limit, room, base)
 }
@@ -372,7 +374,7 @@ const ANY_ROOM: usize = 18446744073709551615;
 // The normal form of a whole recording, into lent room: first counted, which also finds what is wrong, then written. With a refusal nothing
 // is written; what is behind the recording stays.
 pub fn normal_recording(bytes: &[u8], room: &mut [u8]) -> WriteReply
-    ensures* { λ r. ⌜ written_of r room.new ≡ whole_normal bytes.now room.old ⌝ }
+    ensures { written_of result room.new ≡ whole_normal bytes.now room.old }
 {
     let t = dem_framing::read_track(bytes);
     let wrong = t.refusal;

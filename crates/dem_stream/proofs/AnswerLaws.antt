@@ -8,11 +8,11 @@ use native.Mathlib.Omega.{arith}
 use borrow.Author.Tests.{ltb-false}
 use lib.Dec.{ltb}
 use lib.ListN.{length, drop}
-use Rattle.format.specs.Refusal.{code, cutMessage, shortRoom, wrongScene}
+use Rattle.format.specs.Refusal.{code, cut_message, short_room, wrong_scene}
 use Rattle.format.specs.Bytes.{Result, found, refused}
 use Rattle.format.specs.Codec.{WrittenRun, write_most, normal_bytes}
 use Rattle.dem.specs.Scene.{Scene as Described, in_range}
-use Rattle.dem.specs.Track.{TrackLine, read_track, track_number, normal_track, writeTrack}
+use Rattle.dem.specs.Track.{TrackLine, read_track, track_number, normal_track, write_track}
 use Rattle.format.specs.Answer.{place_in, result, refusal, reply, Written, written, written_at}
 use Rattle.dem.specs.Recording.{Block, blocks, normal_block}
 use Rattle.dem.specs.Answer.{rewriting_of, normal_blocks_at, track_normal_of, track_normal}
@@ -57,8 +57,8 @@ piece_within s bytes last before room = go (in_range s) (ltb (length bytes) 0)
     told : Bool → Bool → Told
     told x y =
         told_of last before
-        (cond (not x) (written (reply s (refusal (code wrongScene) 0)) room)
-        (cond y (written (reply s (refusal (code cutMessage) 0)) room)
+        (cond (not x) (written (reply s (refusal (code wrong_scene) 0)) room)
+        (cond y (written (reply s (refusal (code cut_message) 0)) room)
         (written (reply w.run.state (result (rewriting_of bytes w))) (w.bytes ++ drop (length w.bytes) room)))
         ).answer
 
@@ -90,12 +90,12 @@ module _ (bytes : List ℕ) (last : Bool) (room : List ℕ) where
   line_within = go (not last && ltb (length bytes) longest_line) (read_track bytes)
     where
       line : TrackLine → List ℕ
-      line t = writeTrack (normal_track (track_number t))
+      line t = write_track (normal_track (track_number t))
 
       put : TrackLine → List ℕ → Bool → Told
       put t rest x =
           line_told
-          (cond x (written (reply (tt {0}) (refusal (code shortRoom) (length (line t)))) room)
+          (cond x (written (reply (tt {0}) (refusal (code short_room) (length (line t)))) room)
           (written (reply (tt {0}) (result (record { length = length (line t); next = place_in bytes rest }))) (line t ++ drop (length (line t)) room))
           ).answer
 

@@ -6,7 +6,7 @@ use mathlib.Core.Bool.{Bool, true, false, cond}
 use Prim.Native.Nat.{ℕ, zero, suc, ◌+◌, ◌-◌, zero-le}
 use lib.Dec.{ltb, eqb}
 use lib.ListN.{length, take, drop}
-use Rattle.format.specs.Refusal.{code, shortRoom}
+use Rattle.format.specs.Refusal.{code, short_room}
 use Rattle.format.specs.Bytes.{Bytes, Result, found, refused}
 use Rattle.dem.specs.Scene.{Scene, in_range}
 use Rattle.format.specs.Codec.{after, WrittenRun, roomless, led, write_on, write_most, normal_bytes}
@@ -30,7 +30,7 @@ told_added : (last : Bool) (before : ℕ) (p q : Rewriting)
     → told_of last before (result (added_written p q)) ≡ added_told (told_of false before (result p)) (told_of last (before + p.progress.next) (result q))
 told_added last before p q =
     ap (λ (n : ℕ). record { used = p.progress.next + q.progress.next; written = p.length + q.length; refusal = (told_of last before (result q)).refusal; place = n })
-    (go (eqb q.progress.refusal (code shortRoom)))
+    (go (eqb q.progress.refusal (code short_room)))
   where
     next : ℕ
     next = p.progress.next

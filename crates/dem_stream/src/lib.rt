@@ -1,4 +1,6 @@
 // A recording that is read in pieces, in normal form: the work on one piece. None of these has a `requires`.
+#![tactic(auto)]
+
 ghost use Rattle.std.specs.Prelude.{◌≡◌, ◌-◌, ◌≤◌, min, length};
 ghost use Rattle.std.proofs.lemmas.List.Edits.{sets};
 ghost use Rattle.dem_scene.specs.Views.{scene_of};
@@ -45,7 +47,7 @@ fn refusal_place(before: usize, refusal: u8, place: usize) -> usize
 
 // Of a piece of a recording: the scene after it; the number of its bytes that were used, and of those written; the refusal met behind them,
 // 0 for none, and its place.
-#[derive(Drop)]
+#[derive(Clone, Copy)]
 pub struct Piece {
     pub scene: Scene,
     pub used: usize,
@@ -86,7 +88,7 @@ pub fn normal_piece(scene: Scene, bytes: &[u8], last: bool, before: usize, room:
 }
 
 // Of the first piece of a recording: as `Piece`, of its track line.
-#[derive(Drop)]
+#[derive(Clone, Copy)]
 pub struct FirstLine {
     pub used: usize,
     pub written: usize,

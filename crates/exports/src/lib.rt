@@ -1,4 +1,6 @@
 // The library for programs in other languages: numbers and byte slices only. include/cobbrundle.h says the same to C.
+#![tactic(auto)]
+
 ghost use Rattle.std.specs.Prelude.{◌≡◌};
 ghost use Rattle.dem.specs.Answer.{whole, whole_normal};
 ghost use Rattle.exports.specs.Numbers.{checked, checked_by, rewritten, rewritten_by};

@@ -1,4 +1,6 @@
 // One number of the scene after a recording, for the benchmark to ask for: no part of the reading can be left out for it.
+#![tactic(auto)]
+
 ghost use Rattle.std.specs.Prelude.{◌≡◌};
 ghost use Rattle.std.proofs.Common.{of_z};
 ghost use Rattle.std.specs.Int.{w16};

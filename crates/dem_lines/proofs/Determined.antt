@@ -23,7 +23,7 @@ use Rattle.dem_scene.specs.contracts.PlayerLine as LineType
 use Rattle.dem_scene.specs.contracts.Scene as SceneType
 use Rattle.dem_scene.proofs.Back.{lines_fixed, scene_fixed}
 use Rattle.dem_messages.specs.Replies.{reply_of}
-use Rattle.dem_messages.specs.Replies.{answer_of as messageAnswerOf}
+use Rattle.dem_messages.specs.Replies.{answer_of as message_answer_of}
 use Rattle.dem_messages.specs.declared.MessageReply.{MessageReply}
 use Rattle.dem_messages.specs.contracts.MessageReply as MessageType
 use Rattle.dem_messages.proofs.FoundBack.{answer_determined}
@@ -104,10 +104,10 @@ message_given t lines s at = let r = message_at (with_lines lines t) s at in go 
 
 pub lent_given : (scene : Scene) (s : List ℕ) (at : ℕ) (r : MessageReply) (xs ys : List PlayerLine) → Held SceneType.the_row scene
     → Held MessageType.the_row r → AllHeld xs → AllHeld ys → lent (reply_of s r) (map line_of ys) ≡ message_lent (scene_of scene) (map line_of xs) s at
-    → GivenBack scene r.scene (messageAnswerOf s r.answer) × GivenBack xs ys (messageAnswerOf s r.answer)
+    → GivenBack scene r.scene (message_answer_of s r.answer) × GivenBack xs ys (message_answer_of s r.answer)
 lent_given scene s at r xs ys h k hs ks e =
     let t = scene_of scene in
-    let a = messageAnswerOf s r.answer in
+    let a = message_answer_of s r.answer in
     let g = subst (Given t (map line_of xs)) (sym e) (message_given t (map line_of xs) s at) in (
       given_through scene_of scene r.scene (scene_fixed r.scene scene (_, k.1.1.1.1.0) h) a g.0,
       given_through (map line_of) xs ys (lines_fixed ys xs ks hs) a g.1,

@@ -2,17 +2,14 @@
 -- Assumes nothing.
 use mathlib.Core.Path.{◌≡◌, refl, sym, ap, ◌∙◌}
 use mathlib.Core.List.{List, [], ◌∷◌, ◌++◌, map}
-use mathlib.Core.Bool.{Bool, true, false, not}
-use mathlib.Core.WellFounded.InvImage
-use mathlib.Core.WellFounded.{WellFounded}
+use mathlib.Core.Bool.{Bool, true, false}
 use Prim.Native.Nat.{ℕ, suc, ◌+◌, ◌-◌, ◌<◌, ◌≤◌}
 use native.Mathlib.Omega.{arith}
 use borrow.Author.Tests.{eqb-true, ltb-true}
 use lib.Dec.{eqb, ltb}
-use lib.ListN.{length, set, get_or, replicate, length-set, length-map, length-append}
+use lib.ListN.{length, set, get_or, replicate, length-map, length-append}
 use lib.Seq.{set-append_seam, append_snoc}
 use lib.IntN.{ℤ}
-use lib.WfN.{lt-wf_rel}
 use mir.Syntax.{w16}
 use mir.Val.{of_z}
 use Rattle.dem.specs.Scene.{PlayerLine as Line, zero_line}
@@ -28,52 +25,25 @@ use Rattle.dem_lines.specs.Lent.{Lent, lent, answer_of, changed_lines, player_of
 use Rattle.dem_lines.proofs.Lending.{not_sixteen, no_line, changes}
 use Rattle.dem_lines.specs.Turns.{line_plan, change_plan, plan_of, clear_line, changed_line, changed_from}
 
--- Behind some turns: how many lines are left, the next one, and the lines by now, which what is left takes to zs.
-pub record Turn (c : LineChange) (end : ℕ) (xs zs : List PlayerLine) : Type 0 where
-  pub left : ℕ
-  pub i : ℕ
-  pub lines : List PlayerLine
-  pub upto : i + left ≡ end
-  pub even : length lines ≡ length xs
-  pub leads : changed_from c left i lines ≡ zs
-
 -- What a plan takes the lines to.
 abbrev pub carried : LineChange → Plan → List PlayerLine → List PlayerLine
 carried c p xs = changed_from c (p.end - p.first) p.first xs
 
-module _ {c : LineChange} {end : ℕ} {xs zs : List PlayerLine} where
-  abbrev pub Nearer : Turn c end xs zs → Turn c end xs zs → Type 0
-  Nearer s t = s.left < t.left
-
-  pub nearer_wf : WellFounded Nearer
-  nearer_wf = InvImage.wf (λ (t : Turn c end xs zs). t.left) lt-wf_rel.wf
-
-  pub leads_on : (t : Turn c end xs zs) (n : ℕ) → t.left ≡ suc n → (l : PlayerLine) → l ≡ changed_line c (get_or t.lines t.i clear_line)
-      → changed_from c n (t.i + 1) (set t.lines t.i l) ≡ zs
+-- Where what is left from a place up to an end takes the lines to zs: the turn there puts the changed line in its place, and what is left then takes them there.
+module _ (c : LineChange) (end i : ℕ) (lines zs : List PlayerLine) where
+  pub leads_on : (l : PlayerLine) → i < end → l ≡ changed_line c (get_or lines i clear_line) → changed_from c (end - i) i lines ≡ zs
+      → changed_from c (end - (i + 1)) (i + 1) (set lines i l) ≡ zs
   unfolding changed_from
-  leads_on t n e l f =
-      ap (λ (k : PlayerLine). changed_from c n (t.i + 1) (set t.lines t.i k)) f
-      ∙ ap (λ (k : ℕ). changed_from c k t.i t.lines) (sym e) ∙ t.leads
-
-  -- A turn puts the changed line in its place.
-  abbrev pub next : (t : Turn c end xs zs) (n : ℕ) → t.left ≡ suc n → (l : PlayerLine) → l ≡ changed_line c (get_or t.lines t.i clear_line) → Turn c end xs zs
-  next t n e l f =
-      record {
-        left = n;
-        i = t.i + 1;
-        lines = set t.lines t.i l;
-        upto = omega (arith, t.upto, e);
-        even = length-set t.lines t.i l ∙ t.even;
-        leads = leads_on t n e l f;
-      }
+  leads_on l h f e =
+      let one_more : end - i ≡ suc (end - (i + 1)) = omega arith in
+      ap (λ (k : PlayerLine). changed_from c (end - (i + 1)) (i + 1) (set lines i k)) f
+      ∙ ap (λ (k : ℕ). changed_from c k i lines) (sym one_more) ∙ e
 
   -- Behind the last turn the lines are there.
-  pub at_last : (t : Turn c end xs zs) → t.left ≡ 0 → t.lines ≡ zs
+  pub at_last : end ≤ i → changed_from c (end - i) i lines ≡ zs → lines ≡ zs
   unfolding changed_from
-  at_last t e = ap (λ (k : ℕ). changed_from c k t.i t.lines) (sym e) ∙ t.leads
-
-abbrev pub begin : (c : LineChange) (p : Plan) (xs : List PlayerLine) → p.first ≤ p.end → Turn c p.end xs (carried c p xs)
-begin c p xs h = record { left = p.end - p.first; i = p.first; lines = xs; upto = omega (arith, h); even = refl; leads = refl }
+  at_last h e =
+      let none : end - i ≡ 0 = omega arith in ap (λ (k : ℕ). changed_from c k i lines) (sym none) ∙ e
 
 -- ---- the plan of a change
 

@@ -1,4 +1,6 @@
 // Player lines that a caller lends as one list, changed in place.
+#![tactic(auto)]
+
 ghost use Rattle.std.specs.Prelude.{◌≡◌, List, map, ℕ, length};
 ghost use Rattle.dem.specs.Scene.{Scene as Described, PlayerLine as Line};
 ghost use Rattle.dem.specs.Message.{apply, fill};
@@ -17,7 +19,7 @@ use dem_types::{Message, Player};
 use format::refusal::{WRONG_NUMBER, WRONG_SCENE};
 
 // What is done to the lines. Clearing is what serverinfo does to them.
-#[derive(Drop)]
+#[derive(Clone, Copy)]
 pub enum LineChange {
     Nothing,
     Frags(Player, i16),
@@ -26,14 +28,14 @@ pub enum LineChange {
 }
 
 // With a refusal, its number and place, every line is as it was.
-#[derive(Drop)]
+#[derive(Clone, Copy)]
 pub enum LinesAnswer {
     Changed,
     Refused(u8, usize),
 }
 
 // An answer, and the lines that change: from `first` up to `end`.
-#[derive(Drop)]
+#[derive(Clone, Copy)]
 pub struct Plan {
     pub answer: LinesAnswer,
     pub first: usize,

@@ -1,4 +1,6 @@
 // A walker over a block's messages: it holds the block's bytes and the place of the next message.
+#![tactic(auto)]
+
 ghost use Rattle.std.specs.Prelude.{◌≡◌};
 ghost use Rattle.dem_scene.specs.Views.{scene_of};
 ghost use Rattle.dem_messages.specs.Replies.{reply_of};
@@ -7,7 +9,7 @@ ghost use Rattle.dem_walker.specs.Walks.{place_after, stepped, step_at, walked_o
 use dem_messages::{MessageAnswer, MessageReply};
 use dem_scene::Scene;
 
-#[derive(Drop)]
+#[derive(Clone, Copy)]
 pub struct Walker<'a> {
     pub block: &'a [u8],
     pub at: usize,
@@ -44,7 +46,7 @@ pub fn next<'s, 'a>(w: &'s mut Walker<'a>, scene: Scene) -> MessageReply
 
 // The scene after a block's messages, how many they are, and the place behind them; or a refusal's number and place, with the scene given and
 // no message counted.
-#[derive(Drop)]
+#[derive(Clone, Copy)]
 pub struct Walked {
     pub scene: Scene,
     pub messages: usize,

@@ -4,33 +4,38 @@ use crate::text::{bit, char, form, long, short};
 use dem::limit::{ENTITY_COUNT, PLAYER_COUNT, STAT_COUNT};
 use dem_scene::{Baseline, Client, PlayerLine, Record, Rest, Scene};
 use dem_types::{Arms, Look, Motion, Pose, Supplies, Time};
+use std::io;
 
-fn time(out: &mut [u8], at: usize, rest: Rest) -> usize {
-    let end = text::put(out, at, b"\ntime ");
+fn time(rt: &impl Print, out: &mut [u8], at: usize, rest: Rest) -> io::Result<usize> {
+    let end = text::put(rt, out, at, b"\ntime ")?;
     let time = rest.time;
     match time {
-        Time::None => text::put(out, end, b"none"),
-        Time::At(bits) => text::bits(out, end, bits),
+        Time::None => text::put(rt, out, end, b"none"),
+        Time::At(bits) => text::bits(rt, out, end, bits),
     }
 }
 
-fn stat(out: &mut [u8], at: usize, v: i32) -> usize {
-    form(out, at, b" %", &[long(v)])
+fn stat(rt: &impl Print, out: &mut [u8], at: usize, v: i32) -> io::Result<usize> {
+    form(rt, out, at, b" %", &[long(v)])
 }
 
-fn stats(out: &mut [u8], at: usize, values: [i32; STAT_COUNT]) -> usize {
-    let mut end = text::put(out, at, b"\nstats");
-    let mut i = 0;
-    while i < STAT_COUNT {
-        end = stat(out, end, values[i]);
-        i += 1;
+fn stats(
+    rt: &impl Print,
+    out: &mut [u8],
+    at: usize,
+    values: [i32; STAT_COUNT],
+) -> io::Result<usize> {
+    let mut end = text::put(rt, out, at, b"\nstats")?;
+    for i in 0..STAT_COUNT {
+        end = stat(rt, out, end, values[i])?;
     }
-    end
+    Ok(end)
 }
 
 // Each axis has its punch before its velocity.
-fn motion(out: &mut [u8], at: usize, m: Motion) -> usize {
+fn motion(rt: &impl Print, out: &mut [u8], at: usize, m: Motion) -> io::Result<usize> {
     form(
+        rt,
         out,
         at,
         b"\nclientdata view_height=% pitch=% punch0=% velocity0=% punch1=% velocity1=% punch2=% velocity2=%",
@@ -47,8 +52,9 @@ fn motion(out: &mut [u8], at: usize, m: Motion) -> usize {
     )
 }
 
-fn state(out: &mut [u8], at: usize, c: Client) -> usize {
+fn state(rt: &impl Print, out: &mut [u8], at: usize, c: Client) -> io::Result<usize> {
     form(
+        rt,
         out,
         at,
         b" items=% ground=% water=%",
@@ -56,8 +62,9 @@ fn state(out: &mut [u8], at: usize, c: Client) -> usize {
     )
 }
 
-fn arms(out: &mut [u8], at: usize, a: Arms) -> usize {
+fn arms(rt: &impl Print, out: &mut [u8], at: usize, a: Arms) -> io::Result<usize> {
     form(
+        rt,
         out,
         at,
         b" weapon_frame=% armour=% weapon_model=%",
@@ -69,8 +76,9 @@ fn arms(out: &mut [u8], at: usize, a: Arms) -> usize {
     )
 }
 
-fn supplies(out: &mut [u8], at: usize, s: Supplies) -> usize {
+fn supplies(rt: &impl Print, out: &mut [u8], at: usize, s: Supplies) -> io::Result<usize> {
     form(
+        rt,
         out,
         at,
         b" health=% ammo=% count0=% count1=% count2=% count3=% weapon=%",
@@ -86,18 +94,25 @@ fn supplies(out: &mut [u8], at: usize, s: Supplies) -> usize {
     )
 }
 
-fn client(out: &mut [u8], at: usize, c: Client) -> usize {
+fn client(rt: &impl Print, out: &mut [u8], at: usize, c: Client) -> io::Result<usize> {
     let m = c.motion;
     let a = c.arms;
     let s = c.supplies;
-    let mut end = motion(out, at, m);
-    end = state(out, end, c);
-    end = arms(out, end, a);
-    supplies(out, end, s)
+    let mut end = motion(rt, out, at, m)?;
+    end = state(rt, out, end, c)?;
+    end = arms(rt, out, end, a)?;
+    supplies(rt, out, end, s)
 }
 
-fn player(out: &mut [u8], at: usize, i: usize, line: PlayerLine) -> usize {
+fn player(
+    rt: &impl Print,
+    out: &mut [u8],
+    at: usize,
+    i: usize,
+    line: PlayerLine,
+) -> io::Result<usize> {
     form(
+        rt,
         out,
         at,
         b"\nplayer % frags=% colours=%",
@@ -105,20 +120,30 @@ fn player(out: &mut [u8], at: usize, i: usize, line: PlayerLine) -> usize {
     )
 }
 
-fn players(out: &mut [u8], at: usize, values: [PlayerLine; PLAYER_COUNT]) -> usize {
+fn players(
+    rt: &impl Print,
+    out: &mut [u8],
+    at: usize,
+    values: [PlayerLine; PLAYER_COUNT],
+) -> io::Result<usize> {
     let mut end = at;
-    let mut i = 0;
-    while i < PLAYER_COUNT {
+    for i in 0..PLAYER_COUNT {
         let line = values[i];
-        end = player(out, end, i, line);
-        i += 1;
+        end = player(rt, out, end, i, line)?;
     }
-    end
+    Ok(end)
 }
 
-fn numbers(out: &mut [u8], at: usize, rest: Rest, present_count: usize) -> usize {
+fn numbers(
+    rt: &impl Print,
+    out: &mut [u8],
+    at: usize,
+    rest: Rest,
+    present_count: usize,
+) -> io::Result<usize> {
     let view = rest.view;
     form(
+        rt,
         out,
         at,
         b"\nlimit %\nview %\npause %\nstatics %\npresent %",
@@ -132,18 +157,25 @@ fn numbers(out: &mut [u8], at: usize, rest: Rest, present_count: usize) -> usize
     )
 }
 
-fn rest_lines(out: &mut [u8], at: usize, rest: Rest, present_count: usize) -> usize {
+fn rest_lines(
+    rt: &impl Print,
+    out: &mut [u8],
+    at: usize,
+    rest: Rest,
+    present_count: usize,
+) -> io::Result<usize> {
     let values = rest.stats;
     let c = rest.client;
-    let mut end = form(out, at, b"\nended %", &[bit(rest.ended)]);
-    end = time(out, end, rest);
-    end = numbers(out, end, rest, present_count);
-    end = stats(out, end, values);
-    client(out, end, c)
+    let mut end = form(rt, out, at, b"\nended %", &[bit(rest.ended)])?;
+    end = time(rt, out, end, rest)?;
+    end = numbers(rt, out, end, rest, present_count)?;
+    end = stats(rt, out, end, values)?;
+    client(rt, out, end, c)
 }
 
-fn look(out: &mut [u8], at: usize, l: Look) -> usize {
+fn look(rt: &impl Print, out: &mut [u8], at: usize, l: Look) -> io::Result<usize> {
     form(
+        rt,
         out,
         at,
         b" model=% frame=% colormap=% skin=%",
@@ -156,8 +188,9 @@ fn look(out: &mut [u8], at: usize, l: Look) -> usize {
     )
 }
 
-fn pose(out: &mut [u8], at: usize, p: Pose) -> usize {
+fn pose(rt: &impl Print, out: &mut [u8], at: usize, p: Pose) -> io::Result<usize> {
     form(
+        rt,
         out,
         at,
         b" x=% angle0=% y=% angle1=% z=% angle2=%",
@@ -182,25 +215,44 @@ fn is_zero(l: Look, p: Pose) -> bool {
     p.angle0 == 0 && p.angle1 == 0 && p.angle2 == 0
 }
 
-fn baseline(out: &mut [u8], at: usize, i: usize, b: Baseline) -> usize {
+fn baseline(
+    rt: &impl Print,
+    out: &mut [u8],
+    at: usize,
+    i: usize,
+    b: Baseline,
+) -> io::Result<usize> {
     let l = b.look;
     let p = b.pose;
     if is_zero(l, p) {
-        return at;
+        return Ok(at);
     }
-    let mut end = form(out, at, b"\nbaseline %", &[i as u64]);
-    end = look(out, end, l);
-    pose(out, end, p)
+    let mut end = form(rt, out, at, b"\nbaseline %", &[i as u64])?;
+    end = look(rt, out, end, l)?;
+    pose(rt, out, end, p)
 }
 
-fn record_line(out: &mut [u8], at: usize, i: usize, r: Record, present: bool) -> usize {
+fn record_line(
+    rt: &impl Print,
+    out: &mut [u8],
+    at: usize,
+    i: usize,
+    r: Record,
+    present: bool,
+) -> io::Result<usize> {
     let l = r.look;
     let p = r.pose;
-    let mut end = form(out, at, b"\nrecord % present=%", &[i as u64, bit(present)]);
-    end = look(out, end, l);
-    end = form(out, end, b" effects=%", &[r.effects as u64]);
-    end = pose(out, end, p);
-    form(out, end, b" bit5=%", &[bit(r.bit5)])
+    let mut end = form(
+        rt,
+        out,
+        at,
+        b"\nrecord % present=%",
+        &[i as u64, bit(present)],
+    )?;
+    end = look(rt, out, end, l)?;
+    end = form(rt, out, end, b" effects=%", &[r.effects as u64])?;
+    end = pose(rt, out, end, p)?;
+    form(rt, out, end, b" bit5=%", &[bit(r.bit5)])
 }
 
 fn is_told(r: Record, present: bool) -> bool {
@@ -212,47 +264,50 @@ fn is_told(r: Record, present: bool) -> bool {
     !is_zero(l, p)
 }
 
-fn record(out: &mut [u8], at: usize, i: usize, r: Record, present: bool) -> usize {
+fn record(
+    rt: &impl Print,
+    out: &mut [u8],
+    at: usize,
+    i: usize,
+    r: Record,
+    present: bool,
+) -> io::Result<usize> {
     if is_told(r, present) {
-        return record_line(out, at, i, r, present);
+        return record_line(rt, out, at, i, r, present);
     }
-    at
+    Ok(at)
 }
 
-fn baselines(out: &mut [u8], at: usize, s: Scene) -> usize {
+fn baselines(rt: &impl Print, out: &mut [u8], at: usize, s: Scene) -> io::Result<usize> {
     let mut end = at;
-    let mut i = 0;
-    while i < ENTITY_COUNT {
+    for i in 0..ENTITY_COUNT {
         let b = s.baselines[i];
-        end = baseline(out, end, i, b);
-        i += 1;
+        end = baseline(rt, out, end, i, b)?;
     }
-    end
+    Ok(end)
 }
 
-fn records(out: &mut [u8], at: usize, s: Scene) -> usize {
+fn records(rt: &impl Print, out: &mut [u8], at: usize, s: Scene) -> io::Result<usize> {
     let mut end = at;
-    let mut i = 0;
-    while i < ENTITY_COUNT {
+    for i in 0..ENTITY_COUNT {
         let r = s.records[i];
         let present = s.present[i];
-        end = record(out, end, i, r, present);
-        i += 1;
+        end = record(rt, out, end, i, r, present)?;
     }
-    end
+    Ok(end)
 }
 
 // From the line `ended` on, behind what stands before a place: a line feed, then lines that each end with one.
-pub fn scene_lines(out: &mut [u8], at: usize, s: Scene) -> usize {
+pub fn scene_lines(rt: &impl Print, out: &mut [u8], at: usize, s: Scene) -> io::Result<usize> {
     let rest = s.rest;
     let lines = rest.players;
-    let mut end = rest_lines(out, at, rest, s.present_count);
-    end = players(out, end, lines);
-    end = baselines(out, end, s);
-    end = records(out, end, s);
-    text::put(out, end, b"\n")
+    let mut end = rest_lines(rt, out, at, rest, s.present_count)?;
+    end = players(rt, out, end, lines)?;
+    end = baselines(rt, out, end, s)?;
+    end = records(rt, out, end, s)?;
+    text::put(rt, out, end, b"\n")
 }
 
-pub fn refused(out: &mut [u8], n: u8, place: usize) -> usize {
-    form(out, 0, b"refused % at %\n", &[n as u64, place as u64])
+pub fn refused(rt: &impl Print, out: &mut [u8], n: u8, place: usize) -> io::Result<usize> {
+    form(rt, out, 0, b"refused % at %\n", &[n as u64, place as u64])
 }

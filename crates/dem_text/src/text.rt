@@ -2,48 +2,42 @@
 // and begun again.
 ghost use Rattle.std.specs.Prelude.{◌≤◌};
 
-use libc::{STDERR_FILENO, STDOUT_FILENO};
-
-fn write(text: &[u8]) {
-    if !io::write_all(STDOUT_FILENO, text) {
-        io::write_all(STDERR_FILENO, b"a write of the output failed\n");
-    }
-}
+use itoa::Buffer;
+use std::io;
+use std::io::Write;
 
 // Writes out what is before a place.
-pub fn finish(out: &[u8], at: usize) {
+pub fn finish(rt: &impl Print, out: &[u8], at: usize) -> io::Result<()> {
     if at <= out.len() {
-        write(&out[0..at]);
+        rt.write_all(&out[..at])?;
     }
+    Ok(())
 }
 
-fn put_byte(out: &mut [u8], at: usize, b: u8) -> usize {
+fn put_byte(rt: &impl Print, out: &mut [u8], at: usize, b: u8) -> io::Result<usize> {
     if at < out.len() {
         out[at] = b;
-        return at + 1;
+        return Ok(at + 1);
     }
-    write(out);
+    rt.write_all(out)?;
     if 0 < out.len() {
         out[0] = b;
-        return 1;
+        return Ok(1);
     }
-    0
+    Ok(0)
 }
 
-pub fn put(out: &mut [u8], at: usize, text: &[u8]) -> usize {
+pub fn put(rt: &impl Print, out: &mut [u8], at: usize, text: &[u8]) -> io::Result<usize> {
     let mut end = at;
-    let mut i = 0;
-    while i < text.len() {
-        end = put_byte(out, end, text[i]);
-        i += 1;
+    for b in text {
+        end = put_byte(rt, out, end, *b)?;
     }
-    end
+    Ok(end)
 }
 
-fn decimal(out: &mut [u8], at: usize, v: u64) -> usize {
-    let mut digits = [0u8; 20];
-    let n = io::decimal(v, &mut digits);
-    put(out, at, &digits[..n])
+fn decimal(rt: &impl Print, out: &mut [u8], at: usize, v: u64) -> io::Result<usize> {
+    let mut digits = Buffer::new();
+    put(rt, out, at, digits.format(v).as_bytes())
 }
 
 // What a signed number is as one of 64 bits: of one below zero, its size behind this. No other number here is as large.
@@ -80,19 +74,25 @@ pub fn bit(set: bool) -> u64 {
     0
 }
 
-fn number(out: &mut [u8], at: usize, v: u64) -> usize {
+fn number(rt: &impl Print, out: &mut [u8], at: usize, v: u64) -> io::Result<usize> {
     if v < BELOW_ZERO {
-        return decimal(out, at, v);
+        return decimal(rt, out, at, v);
     }
-    let end = put_byte(out, at, b'-');
-    decimal(out, end, v - BELOW_ZERO)
+    let end = put_byte(rt, out, at, b'-')?;
+    decimal(rt, out, end, v - BELOW_ZERO)
 }
 
-fn value(out: &mut [u8], at: usize, values: &[u64], i: usize) -> usize {
+fn value(
+    rt: &impl Print,
+    out: &mut [u8],
+    at: usize,
+    values: &[u64],
+    i: usize,
+) -> io::Result<usize> {
     if i < values.len() {
-        return number(out, at, values[i]);
+        return number(rt, out, at, values[i]);
     }
-    at
+    Ok(at)
 }
 
 const MARK: u8 = b'%';
@@ -107,30 +107,41 @@ fn marks_in(b: u8) -> usize
 }
 
 // A byte, or a value in its place if it is a mark.
-fn put_or_value(out: &mut [u8], at: usize, b: u8, values: &[u64], i: usize) -> usize {
+fn put_or_value(
+    rt: &impl Print,
+    out: &mut [u8],
+    at: usize,
+    b: u8,
+    values: &[u64],
+    i: usize,
+) -> io::Result<usize> {
     if b == MARK {
-        return value(out, at, values, i);
+        return value(rt, out, at, values, i);
     }
-    put_byte(out, at, b)
+    put_byte(rt, out, at, b)
 }
 
 // A text with a value in the place of each mark.
-pub fn form(out: &mut [u8], at: usize, text: &[u8], values: &[u64]) -> usize {
+pub fn form(
+    rt: &impl Print,
+    out: &mut [u8],
+    at: usize,
+    text: &[u8],
+    values: &[u64],
+) -> io::Result<usize> {
     let mut end = at;
-    let mut i = 0;
     let mut marks = 0;
-    while i < text.len() {
-        let b = text[i];
-        end = put_or_value(out, end, b, values, marks);
-        marks += marks_in(b);
-        i += 1;
+    for b in text {
+        end = put_or_value(rt, out, end, *b, values, marks)?;
+        marks += marks_in(*b);
     }
-    end
+    Ok(end)
 }
 
 // The bits of a time, in eight digits.
-pub fn bits(out: &mut [u8], at: usize, v: u32) -> usize {
-    let mut digits = [0u8; 16];
-    let n = io::hex(v as u64, 8, &mut digits);
-    put(out, at, &digits[..n])
+pub fn bits(rt: &impl Print, out: &mut [u8], at: usize, v: u32) -> io::Result<usize> {
+    let mut digits = [0u8; 8];
+    let mut room = &mut digits[..];
+    write!(room, "{v:08x}")?;
+    put(rt, out, at, &digits)
 }

@@ -1,5 +1,7 @@
 // A scene changed by hand and handed in: the scene after the good blocks of the recording on standard input, changed by the words that are
 // the arguments, and what is then answered for a message.
+#![tactic(auto)]
+
 mod numbers;
 mod recording;
 mod words;
@@ -9,7 +11,8 @@ ghost use Rattle.std.specs.Prelude.{◌≡◌, length};
 use dem_messages::MessageAnswer;
 use dem_scene::Scene;
 use dem_text::{lines, text};
-use libc::STDERR_FILENO;
+use std::env::{Env, FillError};
+use std::io;
 use words::Given;
 
 // No argument is longer.
@@ -19,66 +22,79 @@ fn word_room() -> [u8; 131072]
     [0; 131072]
 }
 
-fn complain_of(word: &[u8]) {
-    io::write_all(STDERR_FILENO, b"wrong word ");
-    io::write_all(STDERR_FILENO, word);
-    io::write_all(STDERR_FILENO, b"\n");
+// Where standard error takes nothing either, nobody can be told.
+fn complain(rt: &HostRuntime, text: &[u8]) {
+    let _ = rt.stderr().write_all(text);
+}
+
+fn complain_of(rt: &HostRuntime, word: &[u8]) {
+    complain(rt, b"wrong word ");
+    complain(rt, word);
+    complain(rt, b"\n");
 }
 
 // The scene and what is asked, after a word.
-fn after_word(given: Given, i: usize, asked: &mut [u8]) -> Given {
-    let mut room = word_room();
-    let len = os::arg(i, &mut room);
-    let after = words::change(given, &room[..len], asked);
+fn after_word(rt: &HostRuntime, given: Given, word: &[u8], asked: &mut [u8]) -> Given {
+    let after = words::change(given, word, asked);
     if after.wrong {
-        complain_of(&room[..len]);
+        complain_of(rt, word);
     }
     after
 }
 
 // After all words, or the first that is wrong.
-fn after_words(start: Given, asked: &mut [u8]) -> Given {
-    let count = os::arg_count();
+fn after_words(rt: &HostRuntime, start: Given, asked: &mut [u8]) -> Given {
     let mut given = start;
-    let mut i = 1;
-    while i < count {
-        given = after_word(given, i, asked);
+    let mut room = word_room();
+    for i in 1..usize::MAX {
+        let len = match rt.arg(i, &mut room) {
+            Ok(len) => len,
+            Err(FillError::TooLong) => 0,
+            Err(FillError::NotPresent) => return given,
+        };
+        given = after_word(rt, given, &room[..len], asked);
         if given.wrong {
             return given;
         }
-        i += 1;
     }
     given
 }
 
-fn answer_lines(out: &mut [u8], scene: Scene, bytes: &[u8], at: usize) -> usize {
+fn answer_lines(
+    rt: &impl Print,
+    out: &mut [u8],
+    scene: Scene,
+    bytes: &[u8],
+    at: usize,
+) -> io::Result<usize> {
     let reply = dem_messages::read_message_at(scene, bytes, at);
     let answer = reply.answer;
     let after = reply.scene;
     match answer {
         MessageAnswer::Found(_, _, next) => {
-            let end = text::form(out, 0, b"next %", &[next as u64]);
-            lines::scene_lines(out, end, after)
+            let end = text::form(rt, out, 0, b"next %", &[next as u64])?;
+            lines::scene_lines(rt, out, end, after)
         }
-        MessageAnswer::End => text::put(out, 0, b"end\n"),
-        MessageAnswer::Refused(refusal, place) => lines::refused(out, refusal, place),
+        MessageAnswer::End => text::put(rt, out, 0, b"end\n"),
+        MessageAnswer::Refused(refusal, place) => lines::refused(rt, out, refusal, place),
     }
 }
 
-fn show(given: Given, asked: &[u8]) {
+fn show(rt: &impl Print, given: Given, asked: &[u8]) -> io::Result<()> {
     let count = given.count;
     let scene = given.scene;
     if count <= asked.len() {
-        let mut out = io::large_buffer();
-        let end = answer_lines(&mut out, scene, &asked[0..count], given.at);
-        text::finish(&out, end);
+        let mut out = [0; 65536];
+        let end = answer_lines(rt, &mut out, scene, &asked[..count], given.at)?;
+        text::finish(rt, &out, end)?;
     }
+    Ok(())
 }
 
-fn main() {
-    let read = recording::scene_after();
+fn main(rt: HostRuntime) {
+    let read = recording::scene_after(&mut rt.stdin());
     if read.failed {
-        io::write_all(STDERR_FILENO, b"demgiven: cannot read standard input\n");
+        complain(&rt, b"demgiven: cannot read standard input\n");
         return;
     }
     let mut asked = [0u8; 8192];
@@ -89,8 +105,10 @@ fn main() {
         at: 0,
         wrong: false,
     };
-    let given = after_words(start, &mut asked);
+    let given = after_words(&rt, start, &mut asked);
     if !given.wrong {
-        show(given, &asked);
+        if show(&rt, given, &asked).is_err() {
+            complain(&rt, b"a write of the output failed\n");
+        }
     }
 }

@@ -1,7 +1,7 @@
 // Numbers in words.
 
 // A number, if there is one, that fits 32 bits.
-#[derive(Drop)]
+#[derive(Clone, Copy)]
 pub struct Number {
     pub value: u64,
     pub good: bool,
@@ -54,13 +54,11 @@ pub fn read_number(text: &[u8], hex: bool, most: u64) -> Number {
         value: 0,
         good: 0 < text.len(),
     };
-    let mut i = 0;
-    while i < text.len() {
-        n = with_digit(n, hex, text[i]);
+    for b in text {
+        n = with_digit(n, hex, *b);
         if !n.good {
             return n;
         }
-        i += 1;
     }
     if most < n.value {
         return none();

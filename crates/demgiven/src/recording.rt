@@ -4,9 +4,10 @@ ghost use Rattle.std.specs.Prelude.{◌≤◌, length};
 use dem_recordings::{BlocksAnswer, TrackAnswer};
 use dem_scene::Scene;
 use input_pieces::Filled;
+use std::io;
 
 // The scene, or that a read failed.
-#[derive(Drop)]
+#[derive(Clone, Copy)]
 pub struct Read {
     pub scene: Scene,
     pub failed: bool,
@@ -21,8 +22,8 @@ fn behind(answer: BlocksAnswer, from: usize) -> usize {
 }
 
 // The blocks from a place of the array on, and all that follow. A full array holds a whole block, so where nothing is read at its start no
-// good block follows. The turns count down from a number that no run uses up, since nothing says that the input ends.
-fn after_blocks(input: &mut [u8], filled: Filled, from: usize) -> Read
+// good block follows. The turns count up to a number that no run uses up, since nothing says that the input ends.
+fn after_blocks<R: io::Read>(reader: &mut R, input: &mut [u8], filled: Filled, from: usize) -> Read
     requires { filled.len ≤ length input.old }
 {
     let mut scene = dem_messages::start();
@@ -30,8 +31,7 @@ fn after_blocks(input: &mut [u8], filled: Filled, from: usize) -> Read
     let mut last = filled.ended;
     let mut failed = filled.failed;
     let mut at = from;
-    let mut turns = u64::MAX;
-    while turns > 0 {
+    for _ in 0..u64::MAX {
         let reply = dem_recordings::read_blocks_at(scene, &input[0..len], at);
         let answer = reply.answer;
         scene = reply.scene;
@@ -40,22 +40,21 @@ fn after_blocks(input: &mut [u8], filled: Filled, from: usize) -> Read
             return Read { scene, failed };
         }
         let left = dem_stream::move_front(input, at, len);
-        let more = input_pieces::fill(input, left);
+        let more = input_pieces::fill(reader, input, left);
         len = more.len;
         last = more.ended;
         failed = more.failed;
         at = 0;
-        turns -= 1;
     }
     Read { scene, failed }
 }
 
-fn after_all(input: &mut [u8]) -> Read {
-    let filled = input_pieces::fill(input, 0);
+fn after_all<R: io::Read>(reader: &mut R, input: &mut [u8]) -> Read {
+    let filled = input_pieces::fill(reader, input, 0);
     let len = filled.len;
     let track = dem_recordings::read_track(&input[0..len]);
     match track {
-        TrackAnswer::Found(_, next) => after_blocks(input, filled, next),
+        TrackAnswer::Found(_, next) => after_blocks(reader, input, filled, next),
         TrackAnswer::Refused(_, _) => Read {
             scene: dem_messages::start(),
             failed: filled.failed,
@@ -63,7 +62,7 @@ fn after_all(input: &mut [u8]) -> Read {
     }
 }
 
-pub fn scene_after() -> Read {
-    let mut input = io::large_buffer();
-    after_all(&mut input)
+pub fn scene_after<R: io::Read>(reader: &mut R) -> Read {
+    let mut input = [0; 65536];
+    after_all(reader, &mut input)
 }

@@ -3,9 +3,10 @@ use crate::numbers::{Number, digit, read_flag, read_number};
 use dem::limit::ENTITY_COUNT;
 use dem_scene::{Rest, Scene};
 use dem_types::{Entity, Time};
+use memchr::memchr;
 
 // The scene, how many bytes are asked of, and from which place on; or that the last word was none.
-#[derive(Drop)]
+#[derive(Clone, Copy)]
 pub struct Given {
     pub scene: Scene,
     pub count: usize,
@@ -37,12 +38,10 @@ fn begins(word: &[u8], name: &[u8]) -> bool {
     if word.len() < name.len() {
         return false;
     }
-    let mut i = 0;
-    while i < name.len() {
+    for i in 0..name.len() {
         if word[i] != name[i] {
             return false;
         }
-        i += 1;
     }
     true
 }
@@ -193,13 +192,14 @@ fn marked_by(given: Given, entity: Number, set: Number) -> Given {
 
 // An entity, a colon, and whether it is present.
 fn marked(given: Given, text: &[u8]) -> Given {
-    let colon = bytes::scan::find(text, 0, text.len(), b':');
-    if colon < text.len() {
-        let entity = read_number(&text[0..colon], false, ENTITY_COUNT as u64 - 1);
-        let set = read_flag(&text[colon + 1..]);
-        return marked_by(given, entity, set);
+    match memchr(b':', text) {
+        Some(colon) => {
+            let entity = read_number(&text[..colon], false, ENTITY_COUNT as u64 - 1);
+            let set = read_flag(&text[colon + 1..]);
+            marked_by(given, entity, set)
+        }
+        None => wrong(given),
     }
-    wrong(given)
 }
 
 // Puts two digits as a byte, and answers whether they are digits.
@@ -219,12 +219,10 @@ fn put_byte(out: &mut [u8], i: usize, high: u8, low: u8) -> bool {
 
 // The bytes of pairs of digits; or that there are none.
 fn decode(text: &[u8], out: &mut [u8]) -> bool {
-    let mut i = 0;
-    while i < text.len() / 2 {
+    for i in 0..text.len() / 2 {
         if !put_byte(out, i, text[2 * i], text[2 * i + 1]) {
             return false;
         }
-        i += 1;
     }
     text.len() % 2 == 0
 }

@@ -1,10 +1,11 @@
 // Writes the normal form of the recording on standard input to standard output. On a refusal one line on standard error tells its number and
 // place, and what was written stays. Memory is two arrays, whatever the input's length.
+#![tactic(auto)]
+
 ghost use Rattle.std.specs.Prelude.{◌≡◌, ◌≤◌, length};
 ghost use Rattle.report.specs.Lines.{line_room};
 
 use input_pieces::Filled;
-use libc::{STDERR_FILENO, STDOUT_FILENO};
 use report::LINE_ROOM;
 
 // A block has at most 8,016 bytes, so that a full array holds a whole one; and its normal form has no more bytes than it, so that the output
@@ -15,46 +16,46 @@ fn room() -> [u8; 262144]
     [0; 262144]
 }
 
-fn complain(text: &[u8]) {
-    io::write_all(STDERR_FILENO, text);
+// Where standard error takes nothing either, nobody can be told.
+fn complain(rt: &HostRuntime, text: &[u8]) {
+    let _ = rt.stderr().write_all(text);
 }
 
-fn complain_of_input() {
-    complain(b"demnorm: cannot read standard input\n");
+fn complain_of_input(rt: &HostRuntime) {
+    complain(rt, b"demnorm: cannot read standard input\n");
 }
 
 // Writes the first bytes of an array, and answers whether all of them were taken.
-fn put(fd: i32, room: &[u8], len: usize) -> bool
+fn put(to: &impl Print, room: &[u8], len: usize) -> bool
     requires { len ≤ length room.now }
 {
-    io::write_all(fd, &room[..len])
+    to.write_all(&room[..len]).is_ok()
 }
 
-fn put_line(text: &[u8; LINE_ROOM], len: usize)
+fn put_line(rt: &HostRuntime, text: &[u8; LINE_ROOM], len: usize)
     requires { len ≤ line_room }
 {
-    put(STDERR_FILENO, text, len);
+    put(&rt.stderr(), text, len);
 }
 
-fn tell(refusal: u8, place: usize) {
+fn tell(rt: &HostRuntime, refusal: u8, place: usize) {
     let line = report::refusal_line(refusal, place);
-    let text = line.text;
-    put_line(&text, line.len);
+    put_line(rt, &line.text, line.len);
 }
 
-fn is_written(room: &[u8], len: usize) -> bool
+fn is_written(rt: &HostRuntime, room: &[u8], len: usize) -> bool
     requires { len ≤ length room.now }
 {
-    if put(STDOUT_FILENO, room, len) {
+    if put(&rt.stdout(), room, len) {
         return true;
     }
-    complain(b"demnorm: cannot write standard output\n");
+    complain(rt, b"demnorm: cannot write standard output\n");
     false
 }
 
-// Normalises the blocks from a place of the input array on, and all that follow. The loop counts its turns down, from a number that no run
+// Normalises the blocks from a place of the input array on, and all that follow. The loop counts its turns, up to a number that no run
 // uses up, since nothing says that the input ends.
-fn write_blocks(input: &mut [u8], output: &mut [u8], filled: Filled, from: usize)
+fn write_blocks(rt: &HostRuntime, input: &mut [u8], output: &mut [u8], filled: Filled, from: usize)
     requires { (from ≤ filled.len) × (filled.len ≤ length input.old) }
 {
     let mut scene = dem_messages::start();
@@ -62,16 +63,15 @@ fn write_blocks(input: &mut [u8], output: &mut [u8], filled: Filled, from: usize
     let mut last = filled.ended;
     let mut start = from;
     let mut before = from;
-    let mut turns = u64::MAX;
-    while turns > 0 {
+    for _ in 0..u64::MAX {
         let piece = dem_stream::normal_piece(scene, &input[start..len], last, before, output);
         let written = piece.written;
-        if !is_written(output, written) {
+        if !is_written(rt, output, written) {
             return;
         }
         let refusal = piece.refusal;
         if refusal != 0 {
-            tell(refusal, piece.place);
+            tell(rt, refusal, piece.place);
             return;
         }
         if last {
@@ -81,39 +81,38 @@ fn write_blocks(input: &mut [u8], output: &mut [u8], filled: Filled, from: usize
         scene = piece.scene;
         before = dem_stream::place_behind(before, used);
         let left = dem_stream::move_front(input, start + used, len);
-        let more = input_pieces::fill(input, left);
+        let more = input_pieces::fill(&mut rt.stdin(), input, left);
         if more.failed {
-            complain_of_input();
+            complain_of_input(rt);
             return;
         }
         len = more.len;
         last = more.ended;
         start = 0;
-        turns -= 1;
     }
-    complain_of_input();
+    complain_of_input(rt);
 }
 
-fn write_all(input: &mut [u8], output: &mut [u8]) {
-    let filled = input_pieces::fill(input, 0);
+fn write_all(rt: &HostRuntime, input: &mut [u8], output: &mut [u8]) {
+    let filled = input_pieces::fill(&mut rt.stdin(), input, 0);
     if filled.failed {
-        complain_of_input();
+        complain_of_input(rt);
         return;
     }
     let len = filled.len;
     let line = dem_stream::first_line(&input[..len], filled.ended, output);
     let refusal = line.refusal;
     if refusal != 0 {
-        tell(refusal, line.place);
+        tell(rt, refusal, line.place);
         return;
     }
-    if is_written(output, line.written) {
-        write_blocks(input, output, filled, line.used);
+    if is_written(rt, output, line.written) {
+        write_blocks(rt, input, output, filled, line.used);
     }
 }
 
-fn main() {
+fn main(rt: HostRuntime) {
     let mut input = room();
     let mut output = room();
-    write_all(&mut input, &mut output);
+    write_all(&rt, &mut input, &mut output);
 }

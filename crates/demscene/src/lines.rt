@@ -3,9 +3,17 @@ use dem_recordings::{RecordingAnswer, RecordingReply, read_recording};
 use dem_text::lines::{refused, scene_lines};
 use dem_text::text;
 use dem_text::text::{form, short};
+use std::io;
 
-fn accepted(out: &mut [u8], track: i16, blocks: usize, messages: usize) -> usize {
+fn accepted(
+    rt: &impl Print,
+    out: &mut [u8],
+    track: i16,
+    blocks: usize,
+    messages: usize,
+) -> io::Result<usize> {
     form(
+        rt,
         out,
         0,
         b"accepted\ntrack %\nblocks %\nmessages %",
@@ -13,20 +21,20 @@ fn accepted(out: &mut [u8], track: i16, blocks: usize, messages: usize) -> usize
     )
 }
 
-fn reply_lines(out: &mut [u8], reply: RecordingReply) -> usize {
+fn reply_lines(rt: &impl Print, out: &mut [u8], reply: RecordingReply) -> io::Result<usize> {
     let answer = reply.answer;
     let s = reply.scene;
     match answer {
         RecordingAnswer::Read(track, blocks, messages) => {
-            let end = accepted(out, track, blocks, messages);
-            scene_lines(out, end, s)
+            let end = accepted(rt, out, track, blocks, messages)?;
+            scene_lines(rt, out, end, s)
         }
-        RecordingAnswer::Refused(n, place) => refused(out, n, place),
+        RecordingAnswer::Refused(n, place) => refused(rt, out, n, place),
     }
 }
 
-pub fn show(bytes: &[u8]) {
-    let mut out = io::large_buffer();
-    let end = reply_lines(&mut out, read_recording(bytes));
-    text::finish(&out, end);
+pub fn show(rt: &impl Print, bytes: &[u8]) -> io::Result<()> {
+    let mut out = [0; 65536];
+    let end = reply_lines(rt, &mut out, read_recording(bytes))?;
+    text::finish(rt, &out, end)
 }

@@ -1,7 +1,9 @@
 // The scene after the recording on standard input, as text on standard output.
+#![tactic(auto)]
+
 mod input;
 mod lines;
 
-fn main() {
-    input::read_and_show();
+fn main(rt: HostRuntime) {
+    input::read_and_show(&rt);
 }

@@ -3,66 +3,79 @@ use crate::{messages, recordings};
 use dem_messages::WriteAnswer;
 use dem_recordings::{Progress, RewriteAnswer, TrackNormalAnswer};
 use dem_scene::Scene;
+use std::io;
 
-pub fn normal(scene: Scene, bytes: &[u8], place: usize, room: &mut [u8]) -> Scene {
+pub fn normal(
+    rt: &impl Print,
+    scene: Scene,
+    bytes: &[u8],
+    place: usize,
+    room: &mut [u8],
+) -> io::Result<Scene> {
     let r = dem_recordings::normal_block_at(scene, bytes, place, room);
     let answer = r.answer;
     let after = r.scene;
-    messages::normal_answer(answer);
-    messages::shown(room);
-    run_show::scenes::show(after);
-    after
+    messages::normal_answer(rt, answer)?;
+    messages::shown(rt, room)?;
+    run_show::scenes::show(rt, after)?;
+    Ok(after)
 }
 
-fn refused(n: u8, at: usize) {
-    run_show::say(b"  ");
-    run_show::refused(n, at);
+fn refused(rt: &impl Print, n: u8, at: usize) -> io::Result<()> {
+    run_show::say(rt, b"  ")?;
+    run_show::refused(rt, n, at)
 }
 
-fn progress(p: Progress, len: usize) {
-    run_show::count(b"  written ", len);
-    run_show::say(b" ");
-    recordings::progress(p);
+fn progress(rt: &impl Print, p: Progress, len: usize) -> io::Result<()> {
+    run_show::count(rt, b"  written ", len)?;
+    run_show::say(rt, b" ")?;
+    recordings::progress(rt, p)
 }
 
-pub fn normal_all(scene: Scene, bytes: &[u8], place: usize, room: &mut [u8]) -> Scene {
+pub fn normal_all(
+    rt: &impl Print,
+    scene: Scene,
+    bytes: &[u8],
+    place: usize,
+    room: &mut [u8],
+) -> io::Result<Scene> {
     let r = dem_recordings::normal_blocks_at(scene, bytes, place, room);
     let answer = r.answer;
     let after = r.scene;
     match answer {
         RewriteAnswer::Written(w) => {
             let p = w.progress;
-            progress(p, w.length);
+            progress(rt, p, w.length)?;
         }
-        RewriteAnswer::Refused(n, at) => refused(n, at),
+        RewriteAnswer::Refused(n, at) => refused(rt, n, at)?,
     }
-    messages::shown(room);
-    run_show::scenes::show(after);
-    after
+    messages::shown(rt, room)?;
+    run_show::scenes::show(rt, after)?;
+    Ok(after)
 }
 
-pub fn recording(bytes: &[u8], room: &mut [u8]) -> Scene {
+pub fn recording(rt: &impl Print, bytes: &[u8], room: &mut [u8]) -> io::Result<Scene> {
     let r = dem_recordings::normal_recording(bytes, room);
     let answer = r.answer;
     let after = r.scene;
     match answer {
-        WriteAnswer::Written(n) => run_show::count(b"  written ", n),
-        WriteAnswer::Refused(n, at) => refused(n, at),
+        WriteAnswer::Written(n) => run_show::count(rt, b"  written ", n)?,
+        WriteAnswer::Refused(n, at) => refused(rt, n, at)?,
     }
-    messages::shown(room);
-    run_show::scenes::show(after);
-    after
+    messages::shown(rt, room)?;
+    run_show::scenes::show(rt, after)?;
+    Ok(after)
 }
 
 // The scene is not asked for, and stays.
-pub fn track(scene: Scene, bytes: &[u8], room: &mut [u8]) -> Scene {
+pub fn track(rt: &impl Print, scene: Scene, bytes: &[u8], room: &mut [u8]) -> io::Result<Scene> {
     match dem_recordings::normal_track(bytes, room) {
         TrackNormalAnswer::Written(n, next) => {
-            run_show::count(b"  written ", n);
-            run_show::count(b" next ", next);
+            run_show::count(rt, b"  written ", n)?;
+            run_show::count(rt, b" next ", next)?;
         }
-        TrackNormalAnswer::Refused(n, at) => refused(n, at),
+        TrackNormalAnswer::Refused(n, at) => refused(rt, n, at)?,
     }
-    messages::shown(room);
-    scene
+    messages::shown(rt, room)?;
+    Ok(scene)
 }

@@ -41,10 +41,8 @@ fn take(out: &mut [u8], count: usize, b: u8) -> usize
 // Two digits are a byte, into an array that held zeros; what is no digit is passed, and so is the line's letter. How many bytes there are.
 pub fn decode(text: &[u8], out: &mut [u8]) -> usize {
     let mut count = 0;
-    let mut i = 1;
-    while i < text.len() {
+    for i in 1..text.len() {
         count = take(out, count, text[i]);
-        i += 1;
     }
     count / 2
 }

@@ -2,6 +2,7 @@
 use dem_lines::LineChange;
 use dem_scene::{PlayerLine, Scene};
 use dem_types::Player;
+use std::io;
 
 fn byte_at(bytes: &[u8], i: usize) -> u8 {
     if i < bytes.len() {
@@ -14,25 +15,26 @@ fn short(low: u8, high: u8) -> i16 {
     wire::signed16(low as u16 + 256 * (high as u16))
 }
 
-fn each(lines: [PlayerLine; 17]) {
+fn each(rt: &impl Print, lines: [PlayerLine; 17]) -> io::Result<()> {
     for i in 0..17 {
-        run_show::scenes::line(lines[i]);
+        run_show::scenes::line(rt, lines[i])?;
     }
+    Ok(())
 }
 
-fn shown(lines: [PlayerLine; 17]) -> [PlayerLine; 17] {
-    run_show::say(b"  lines");
-    each(lines);
-    run_show::say(b"\n");
-    lines
+fn shown(rt: &impl Print, lines: [PlayerLine; 17]) -> io::Result<[PlayerLine; 17]> {
+    run_show::say(rt, b"  lines")?;
+    each(rt, lines)?;
+    run_show::say(rt, b"\n")?;
+    Ok(lines)
 }
 
-fn set(bytes: &[u8]) -> [PlayerLine; 17] {
+fn set(rt: &impl Print, bytes: &[u8]) -> io::Result<[PlayerLine; 17]> {
     let line = PlayerLine {
         frags: short(byte_at(bytes, 0), byte_at(bytes, 1)),
         colours: byte_at(bytes, 2),
     };
-    shown([line; 17])
+    shown(rt, [line; 17])
 }
 
 fn change(bytes: &[u8]) -> LineChange {
@@ -46,31 +48,33 @@ fn change(bytes: &[u8]) -> LineChange {
 }
 
 fn lend(
+    rt: &impl Print,
     lines: [PlayerLine; 17],
     count: usize,
     scene: Scene,
     bytes: &[u8],
     place: usize,
-) -> [PlayerLine; 17] {
+) -> io::Result<[PlayerLine; 17]> {
     if bytes.len() < 4 || 17 < count {
-        return lines;
+        return Ok(lines);
     }
-    let after = run_lends::lend(lines, count, change(bytes), scene, &bytes[4..], place);
-    shown(after)
+    let after = run_lends::lend(rt, lines, count, change(bytes), scene, &bytes[4..], place)?;
+    shown(rt, after)
 }
 
 // The lines that what was asked leaves.
 pub fn ask(
+    rt: &impl Print,
     lines: [PlayerLine; 17],
     letter: u8,
     count: usize,
     scene: Scene,
     bytes: &[u8],
     place: usize,
-) -> [PlayerLine; 17] {
+) -> io::Result<[PlayerLine; 17]> {
     match letter {
-        b'i' => set(bytes),
-        b'l' => lend(lines, count, scene, bytes, place),
-        _ => lines,
+        b'i' => set(rt, bytes),
+        b'l' => lend(rt, lines, count, scene, bytes, place),
+        _ => Ok(lines),
     }
 }

@@ -15,6 +15,8 @@
 //   r  the normal form of a recording, into room of the length; t of its track line
 //   i  frags (two bytes) and colours of every line that can be lent
 //   l  so many lines lent: for a change, which is the first four bytes (its kind, a player, a value), and for the message at the place behind
+#![tactic(auto)]
+
 mod forms;
 mod hex;
 mod lent;
@@ -24,6 +26,7 @@ mod recordings;
 ghost use Rattle.std.specs.Prelude.{◌≡◌, length};
 
 use dem_scene::{PlayerLine, Scene};
+use std::io;
 
 #[derive(Drop)]
 struct State {
@@ -42,29 +45,43 @@ fn start() -> State {
 }
 
 // The scene that what was asked leaves.
-fn scene_after(scene: Scene, letter: u8, place: usize, bytes: &[u8], room: &mut [u8]) -> Scene {
+fn scene_after(
+    rt: &impl Print,
+    scene: Scene,
+    letter: u8,
+    place: usize,
+    bytes: &[u8],
+    room: &mut [u8],
+) -> io::Result<Scene> {
     match letter {
-        b'a' => recordings::read(bytes),
-        b'h' => recordings::track(scene, bytes),
-        b'd' => recordings::block(scene, bytes, place),
-        b'g' => recordings::blocks(scene, bytes, place),
-        b'k' => forms::normal(scene, bytes, place, room),
-        b'b' => forms::normal_all(scene, bytes, place, room),
-        b'r' => forms::recording(bytes, room),
-        b't' => forms::track(scene, bytes, room),
-        _ => messages::ask(scene, letter, place, bytes, room),
+        b'a' => recordings::read(rt, bytes),
+        b'h' => recordings::track(rt, scene, bytes),
+        b'd' => recordings::block(rt, scene, bytes, place),
+        b'g' => recordings::blocks(rt, scene, bytes, place),
+        b'k' => forms::normal(rt, scene, bytes, place, room),
+        b'b' => forms::normal_all(rt, scene, bytes, place, room),
+        b'r' => forms::recording(rt, bytes, room),
+        b't' => forms::track(rt, scene, bytes, room),
+        _ => messages::ask(rt, scene, letter, place, bytes, room),
     }
 }
 
-fn ask(s: State, letter: u8, place: usize, bytes: &[u8], room: &mut [u8]) -> State {
+fn ask(
+    rt: &impl Print,
+    s: State,
+    letter: u8,
+    place: usize,
+    bytes: &[u8],
+    room: &mut [u8],
+) -> io::Result<State> {
     let scene = s.scene;
     let lines = s.lines;
-    let lent = lent::ask(lines, letter, room.len(), scene, bytes, place);
-    let after = scene_after(scene, letter, place, bytes, room);
-    State {
+    let lent = lent::ask(rt, lines, letter, room.len(), scene, bytes, place)?;
+    let after = scene_after(rt, scene, letter, place, bytes, room)?;
+    Ok(State {
         scene: after,
         lines: lent,
-    }
+    })
 }
 
 const MOST_ROOM: usize = 2304;
@@ -76,76 +93,106 @@ fn room() -> [u8; MOST_ROOM]
     [238; MOST_ROOM]
 }
 
-fn in_room(s: State, letter: u8, place: usize, len: usize, bytes: &[u8]) -> State {
+fn in_room(
+    rt: &impl Print,
+    s: State,
+    letter: u8,
+    place: usize,
+    len: usize,
+    bytes: &[u8],
+) -> io::Result<State> {
     let mut b = room();
     if len <= MOST_ROOM {
-        return ask(s, letter, place, bytes, &mut b[..len]);
+        return ask(rt, s, letter, place, bytes, &mut b[..len]);
     }
-    s
+    Ok(s)
 }
 
 fn wide(b: u8) -> usize {
     b as usize
 }
 
-fn short(s: State, letter: u8, bytes: &[u8], len: usize) -> State {
+fn short(rt: &impl Print, s: State, letter: u8, bytes: &[u8], len: usize) -> io::Result<State> {
     if 2 <= len {
         if len <= bytes.len() {
-            return in_room(s, letter, wide(bytes[0]), wide(bytes[1]), &bytes[2..len]);
+            return in_room(
+                rt,
+                s,
+                letter,
+                wide(bytes[0]),
+                wide(bytes[1]),
+                &bytes[2..len],
+            );
         }
     }
-    s
+    Ok(s)
 }
 
-fn first(s: State, letter: u8, place: usize, len: usize, bytes: &[u8], count: usize) -> State {
+fn first(
+    rt: &impl Print,
+    s: State,
+    letter: u8,
+    place: usize,
+    len: usize,
+    bytes: &[u8],
+    count: usize,
+) -> io::Result<State> {
     if count <= bytes.len() {
-        return in_room(s, letter, place, len, &bytes[0..count]);
+        return in_room(rt, s, letter, place, len, &bytes[0..count]);
     }
-    s
+    Ok(s)
 }
 
-fn unpacked(s: State, letter: u8, place: usize, len: usize, packed: &[u8]) -> State {
+fn unpacked(
+    rt: &impl Print,
+    s: State,
+    letter: u8,
+    place: usize,
+    len: usize,
+    packed: &[u8],
+) -> io::Result<State> {
     let mut bytes = [0u8; 8192];
     let count = hex::unpack(packed, &mut bytes);
-    first(s, letter, place, len, &bytes, count)
+    first(rt, s, letter, place, len, &bytes, count)
 }
 
-fn long(s: State, letter: u8, bytes: &[u8], len: usize) -> State {
+fn long(rt: &impl Print, s: State, letter: u8, bytes: &[u8], len: usize) -> io::Result<State> {
     if 4 <= len {
         if len <= bytes.len() {
             let place = hex::word(bytes[0], bytes[1]);
             let room = hex::word(bytes[2], bytes[3]);
-            return unpacked(s, letter, place, room, &bytes[4..len]);
+            return unpacked(rt, s, letter, place, room, &bytes[4..len]);
         }
     }
-    s
+    Ok(s)
 }
 
-fn line(s: State, text: &[u8]) -> State {
-    run_show::say(text);
-    run_show::say(b"\n");
+fn line(rt: &impl Print, s: State, text: &[u8]) -> io::Result<State> {
+    run_show::say(rt, text)?;
+    run_show::say(rt, b"\n")?;
     let mut bytes = [0u8; 512];
     let len = hex::decode(text, &mut bytes);
     let letter = hex::letter(text);
     match letter {
-        b'a'..=b'z' => short(s, letter, &bytes, len),
-        b'A'..=b'Z' => long(s, letter - b'A' + b'a', &bytes, len),
-        _ => s,
+        b'a'..=b'z' => short(rt, s, letter, &bytes, len),
+        b'A'..=b'Z' => long(rt, s, letter - b'A' + b'a', &bytes, len),
+        _ => Ok(s),
     }
 }
 
-fn run(text: &[u8]) {
+fn run(rt: &impl Print, text: &[u8]) -> io::Result<()> {
     let mut s = start();
     let mut at = 0;
     while at < text.len() {
-        let end = bytes::scan::find(text, at, text.len(), 10);
-        s = line(s, &text[at..end]);
+        let end = run_show::find(text, at, b'\n');
+        s = line(rt, s, &text[at..end])?;
         at = end + 1;
     }
+    Ok(())
 }
 
-fn main() {
-    let mut text = io::large_buffer();
-    let len = io::read_full(0, &mut text);
-    run(&text[..len]);
+fn main(rt: HostRuntime) -> io::Result<()> {
+    let mut text = [0; 65536];
+    let filled = input_pieces::fill(&mut rt.stdin(), &mut text, 0);
+    run(&rt, &text[..filled.len])
 }

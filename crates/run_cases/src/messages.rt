@@ -2,17 +2,18 @@
 use dem_messages::{MessageAnswer, NormalAnswer, WriteAnswer};
 use dem_scene::Scene;
 use dem_types::{Entity, Message, Temporary, Vector};
+use std::io;
 use wire::Text;
 
-fn all(block: &[u8], scene: Scene) -> Scene {
+fn all(rt: &impl Print, block: &[u8], scene: Scene) -> io::Result<Scene> {
     let all = dem_walker::read_all(block, scene);
     let after = all.scene;
-    run_show::count(b"  all messages ", all.messages);
-    run_show::count(b" refusal ", all.refusal as usize);
-    run_show::count(b" place ", all.place);
-    run_show::say(b"\n");
-    run_show::scenes::show(after);
-    after
+    run_show::count(rt, b"  all messages ", all.messages)?;
+    run_show::count(rt, b" refusal ", all.refusal as usize)?;
+    run_show::count(rt, b" place ", all.place)?;
+    run_show::say(rt, b"\n")?;
+    run_show::scenes::show(rt, after)?;
+    Ok(after)
 }
 
 fn too_many_statics(scene: Scene) -> Scene {
@@ -32,36 +33,51 @@ fn with_present_count(scene: Scene, bytes: &[u8]) -> Scene {
     changed
 }
 
-pub fn shown(room: &[u8]) {
-    run_show::say(b": ");
-    run_show::hex(room, room.len());
-    run_show::say(b"\n");
+pub fn shown(rt: &impl Print, room: &[u8]) -> io::Result<()> {
+    run_show::say(rt, b": ")?;
+    run_show::hex(rt, room, room.len())?;
+    run_show::say(rt, b"\n")
 }
 
-fn put(scene: Scene, m: Message, text: &[u8], room: &mut [u8]) -> Scene {
+fn put(
+    rt: &impl Print,
+    scene: Scene,
+    m: Message,
+    text: &[u8],
+    room: &mut [u8],
+) -> io::Result<Scene> {
     let r = dem_messages::write_message(scene, m, text, room);
     let answer = r.answer;
-    run_show::say(b"  ");
+    run_show::say(rt, b"  ")?;
     match answer {
-        WriteAnswer::Written(n) => run_show::count(b"written ", n),
-        WriteAnswer::Refused(n, at) => run_show::refused(n, at),
+        WriteAnswer::Written(n) => run_show::count(rt, b"written ", n)?,
+        WriteAnswer::Refused(n, at) => run_show::refused(rt, n, at)?,
     }
-    shown(room);
-    r.scene
+    shown(rt, room)?;
+    Ok(r.scene)
 }
 
 // The scene after the message; it is shown, and so is the one behind what was written.
-fn read(scene: Scene, bytes: &[u8], place: usize, room: &mut [u8]) -> Scene {
+fn read(
+    rt: &impl Print,
+    scene: Scene,
+    bytes: &[u8],
+    place: usize,
+    room: &mut [u8],
+) -> io::Result<Scene> {
     let r = dem_messages::read_message_at(scene, bytes, place);
     let answer = r.answer;
     let after = r.scene;
-    run_show::fields::answer(answer, bytes);
+    run_show::fields::answer(rt, answer, bytes)?;
     match answer {
-        MessageAnswer::Found(m, _, _) => run_show::scenes::show(put(scene, m, bytes, room)),
-        MessageAnswer::End => run_show::scenes::show(after),
-        MessageAnswer::Refused(_, _) => run_show::scenes::show(after),
+        MessageAnswer::Found(m, _, _) => {
+            let written = put(rt, scene, m, bytes, room)?;
+            run_show::scenes::show(rt, written)?;
+        }
+        MessageAnswer::End => run_show::scenes::show(rt, after)?,
+        MessageAnswer::Refused(_, _) => run_show::scenes::show(rt, after)?,
     }
-    after
+    Ok(after)
 }
 
 fn byte_at(bytes: &[u8], i: usize) -> u8 {
@@ -105,60 +121,83 @@ fn made(bytes: &[u8], kind: usize) -> Message {
     }
 }
 
-fn write(scene: Scene, bytes: &[u8], kind: usize, room: &mut [u8]) -> Scene {
-    let after = put(scene, made(bytes, kind), bytes, room);
-    run_show::scenes::show(after);
-    after
+fn write(
+    rt: &impl Print,
+    scene: Scene,
+    bytes: &[u8],
+    kind: usize,
+    room: &mut [u8],
+) -> io::Result<Scene> {
+    let after = put(rt, scene, made(bytes, kind), bytes, room)?;
+    run_show::scenes::show(rt, after)?;
+    Ok(after)
 }
 
-pub fn normal_answer(answer: NormalAnswer) {
+pub fn normal_answer(rt: &impl Print, answer: NormalAnswer) -> io::Result<()> {
     match answer {
         NormalAnswer::Written(n, next) => {
-            run_show::count(b"  written ", n);
-            run_show::count(b" next ", next);
+            run_show::count(rt, b"  written ", n)?;
+            run_show::count(rt, b" next ", next)
         }
-        NormalAnswer::End => run_show::say(b"  end"),
+        NormalAnswer::End => run_show::say(rt, b"  end"),
         NormalAnswer::Refused(n, at) => {
-            run_show::say(b"  ");
-            run_show::refused(n, at);
+            run_show::say(rt, b"  ")?;
+            run_show::refused(rt, n, at)
         }
     }
 }
 
-fn normal(scene: Scene, bytes: &[u8], place: usize, room: &mut [u8]) -> Scene {
+fn normal(
+    rt: &impl Print,
+    scene: Scene,
+    bytes: &[u8],
+    place: usize,
+    room: &mut [u8],
+) -> io::Result<Scene> {
     let r = dem_messages::normal_message_at(scene, bytes, place, room);
     let answer = r.answer;
     let after = r.scene;
-    normal_answer(answer);
-    shown(room);
-    run_show::scenes::show(after);
-    after
+    normal_answer(rt, answer)?;
+    shown(rt, room)?;
+    run_show::scenes::show(rt, after)?;
+    Ok(after)
 }
 
 // The scene after three steps.
-fn walk(scene: Scene, block: &[u8]) -> Scene {
-    let after = run_walks::three_steps(block, scene);
-    run_show::scenes::show(after);
-    all(block, scene);
-    after
+fn walk(rt: &impl Print, scene: Scene, block: &[u8]) -> io::Result<Scene> {
+    let after = run_walks::three_steps(rt, block, scene)?;
+    run_show::scenes::show(rt, after)?;
+    all(rt, block, scene)?;
+    Ok(after)
 }
 
-fn entity(scene: Scene, bytes: &[u8]) -> Scene {
-    run_show::scenes::entity(scene, word(byte_at(bytes, 0), byte_at(bytes, 1)) as usize);
-    scene
+fn entity(rt: &impl Print, scene: Scene, bytes: &[u8]) -> io::Result<Scene> {
+    run_show::scenes::entity(
+        rt,
+        scene,
+        word(byte_at(bytes, 0), byte_at(bytes, 1)) as usize,
+    )?;
+    Ok(scene)
 }
 
 // The scene that what was asked leaves.
-pub fn ask(scene: Scene, letter: u8, place: usize, bytes: &[u8], room: &mut [u8]) -> Scene {
+pub fn ask(
+    rt: &impl Print,
+    scene: Scene,
+    letter: u8,
+    place: usize,
+    bytes: &[u8],
+    room: &mut [u8],
+) -> io::Result<Scene> {
     match letter {
-        b's' => all(bytes, dem_messages::start()),
-        b'o' => too_many_statics(scene),
-        b'c' => with_present_count(scene, bytes),
-        b'e' => entity(scene, bytes),
-        b'm' => read(scene, bytes, place, room),
-        b'n' => normal(scene, bytes, place, room),
-        b'p' => write(scene, bytes, place, room),
-        b'w' => walk(scene, bytes),
-        _ => scene,
+        b's' => all(rt, bytes, dem_messages::start()),
+        b'o' => Ok(too_many_statics(scene)),
+        b'c' => Ok(with_present_count(scene, bytes)),
+        b'e' => entity(rt, scene, bytes),
+        b'm' => read(rt, scene, bytes, place, room),
+        b'n' => normal(rt, scene, bytes, place, room),
+        b'p' => write(rt, scene, bytes, place, room),
+        b'w' => walk(rt, scene, bytes),
+        _ => Ok(scene),
     }
 }

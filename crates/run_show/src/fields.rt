@@ -8,6 +8,7 @@ use dem_types::{
     Arms, Clientdata, Entity, Look, Message, Motion, Particle, Player, Pose, Serverinfo, Sound,
     Supplies, Temporary, Update, Vector,
 };
+use std::io;
 use wire::Text;
 
 fn entity(e: Entity) -> u64 {
@@ -20,96 +21,104 @@ fn player(p: Player) -> u64 {
 
 // ---- strings
 
-fn quoted_byte(b: u8) {
+fn quoted_byte(rt: &impl Print, b: u8) -> io::Result<()> {
     match b {
-        0x22 | 0x5C | 0..=0x1F | 0x7F..=0xFF => digits(b"\\x", b as u64, 2),
-        _ => say(&[b]),
+        0x22 | 0x5C | 0..=0x1F | 0x7F..=0xFF => digits(rt, b"\\x", b as u64, 2),
+        _ => say(rt, &[b]),
     }
 }
 
-fn quoted_at(text: &[u8], start: usize, i: usize) {
+fn quoted_at(rt: &impl Print, text: &[u8], start: usize, i: usize) -> io::Result<()> {
     if start <= text.len() {
         if i < text.len() - start {
-            quoted_byte(text[start + i]);
+            quoted_byte(rt, text[start + i])?;
         }
     }
+    Ok(())
 }
 
-fn quoted(text: &[u8], t: Text) {
+fn quoted(rt: &impl Print, text: &[u8], t: Text) -> io::Result<()> {
     let start = t.start;
     for i in 0..t.len {
-        quoted_at(text, start, i);
+        quoted_at(rt, text, start, i)?;
     }
+    Ok(())
 }
 
 // The strings of a message stand in a lent text; they are shown as places or by their bytes.
-fn string(name: &[u8], t: Text, text: &[u8], by_bytes: bool) {
-    say(name);
+fn string(rt: &impl Print, name: &[u8], t: Text, text: &[u8], by_bytes: bool) -> io::Result<()> {
+    say(rt, name)?;
     if by_bytes {
-        say(b"\"");
-        quoted(text, t);
-        say(b"\"");
+        say(rt, b"\"")?;
+        quoted(rt, text, t)?;
+        say(rt, b"\"")
     } else {
-        count(b"", t.start);
-        count(b"+", t.len);
+        count(rt, b"", t.start)?;
+        count(rt, b"+", t.len)
     }
 }
 
-fn only_string(t: Text, text: &[u8], by_bytes: bool) {
-    string(b" text=", t, text, by_bytes);
+fn only_string(rt: &impl Print, t: Text, text: &[u8], by_bytes: bool) -> io::Result<()> {
+    string(rt, b" text=", t, text, by_bytes)
 }
 
-fn style(i: u8, t: Text, text: &[u8], by_bytes: bool) {
-    numbers(b" style=", &[i as u64]);
-    only_string(t, text, by_bytes);
+fn style(rt: &impl Print, i: u8, t: Text, text: &[u8], by_bytes: bool) -> io::Result<()> {
+    numbers(rt, b" style=", &[i as u64])?;
+    only_string(rt, t, text, by_bytes)
 }
 
-fn name(p: Player, t: Text, text: &[u8], by_bytes: bool) {
-    numbers(b" player=", &[player(p)]);
-    only_string(t, text, by_bytes);
+fn name(rt: &impl Print, p: Player, t: Text, text: &[u8], by_bytes: bool) -> io::Result<()> {
+    numbers(rt, b" player=", &[player(p)])?;
+    only_string(rt, t, text, by_bytes)
 }
 
-fn serverinfo(s: Serverinfo, text: &[u8], by_bytes: bool) {
+fn serverinfo(rt: &impl Print, s: Serverinfo, text: &[u8], by_bytes: bool) -> io::Result<()> {
     let map = s.map;
     let names = s.names;
     numbers(
+        rt,
         b" protocol= limit= game=",
         &[long(s.protocol), s.limit as u64, s.game as u64],
-    );
-    string(b" map=", map, text, by_bytes);
-    string(b" names=", names, text, by_bytes);
+    )?;
+    string(rt, b" map=", map, text, by_bytes)?;
+    string(rt, b" names=", names, text, by_bytes)
 }
 
 // ---- numbers
 
-fn one(name: &[u8], v: u64) {
-    numbers(name, &[v]);
+fn one(rt: &impl Print, name: &[u8], v: u64) -> io::Result<()> {
+    numbers(rt, name, &[v])
 }
 
-fn stat(i: u8, v: i32) {
-    numbers(b" stat= value=", &[i as u64, long(v)]);
+fn stat(rt: &impl Print, i: u8, v: i32) -> io::Result<()> {
+    numbers(rt, b" stat= value=", &[i as u64, long(v)])
 }
 
-fn stopsound(channel: u8, e: Entity) {
-    numbers(b" channel= entity=", &[channel as u64, entity(e)]);
+fn stopsound(rt: &impl Print, channel: u8, e: Entity) -> io::Result<()> {
+    numbers(rt, b" channel= entity=", &[channel as u64, entity(e)])
 }
 
-fn angles(a: i8, b: i8, c: i8) {
-    numbers(b" angle0= angle1= angle2=", &[char(a), char(b), char(c)]);
-}
-
-fn frags(p: Player, v: i16) {
-    numbers(b" player= frags=", &[player(p), short(v)]);
-}
-
-fn colours(p: Player, v: u8) {
-    numbers(b" player= colours=", &[player(p), v as u64]);
-}
-
-fn particle(p: Particle) {
-    let origin = p.origin;
-    vector(origin);
+fn angles(rt: &impl Print, a: i8, b: i8, c: i8) -> io::Result<()> {
     numbers(
+        rt,
+        b" angle0= angle1= angle2=",
+        &[char(a), char(b), char(c)],
+    )
+}
+
+fn frags(rt: &impl Print, p: Player, v: i16) -> io::Result<()> {
+    numbers(rt, b" player= frags=", &[player(p), short(v)])
+}
+
+fn colours(rt: &impl Print, p: Player, v: u8) -> io::Result<()> {
+    numbers(rt, b" player= colours=", &[player(p), v as u64])
+}
+
+fn particle(rt: &impl Print, p: Particle) -> io::Result<()> {
+    let origin = p.origin;
+    vector(rt, origin)?;
+    numbers(
+        rt,
         b" velocity0= velocity1= velocity2= count= colour=",
         &[
             char(p.direction0),
@@ -118,26 +127,27 @@ fn particle(p: Particle) {
             p.count as u64,
             p.colour as u64,
         ],
-    );
+    )
 }
 
-fn damage(save: u8, take: u8, origin: Vector) {
-    numbers(b" save= take=", &[save as u64, take as u64]);
-    vector(origin);
+fn damage(rt: &impl Print, save: u8, take: u8, origin: Vector) -> io::Result<()> {
+    numbers(rt, b" save= take=", &[save as u64, take as u64])?;
+    vector(rt, origin)
 }
 
-fn thing(l: Look, p: Pose) {
-    look(l);
-    pose(p);
+fn thing(rt: &impl Print, l: Look, p: Pose) -> io::Result<()> {
+    look(rt, l)?;
+    pose(rt, p)
 }
 
-fn baseline(e: Entity, l: Look, p: Pose) {
-    one(b" entity=", entity(e));
-    thing(l, p);
+fn baseline(rt: &impl Print, e: Entity, l: Look, p: Pose) -> io::Result<()> {
+    one(rt, b" entity=", entity(e))?;
+    thing(rt, l, p)
 }
 
-fn ends(start: Vector, end: Vector) {
+fn ends(rt: &impl Print, start: Vector, end: Vector) -> io::Result<()> {
     numbers(
+        rt,
         b" start_x= start_y= start_z= end_x= end_y= end_z=",
         &[
             short(start.x),
@@ -147,80 +157,90 @@ fn ends(start: Vector, end: Vector) {
             short(end.y),
             short(end.z),
         ],
-    );
+    )
 }
 
-fn line(kind: u8, e: Entity, start: Vector, end: Vector) {
-    numbers(b" type= entity=", &[kind as u64, entity(e)]);
-    ends(start, end);
+fn line(rt: &impl Print, kind: u8, e: Entity, start: Vector, end: Vector) -> io::Result<()> {
+    numbers(rt, b" type= entity=", &[kind as u64, entity(e)])?;
+    ends(rt, start, end)
 }
 
-fn point(kind: u8, origin: Vector) {
-    one(b" type=", kind as u64);
-    vector(origin);
+fn point(rt: &impl Print, kind: u8, origin: Vector) -> io::Result<()> {
+    one(rt, b" type=", kind as u64)?;
+    vector(rt, origin)
 }
 
-fn explosion2(origin: Vector, first: u8, count: u8) {
-    point(EXPLOSION2, origin);
+fn explosion2(rt: &impl Print, origin: Vector, first: u8, count: u8) -> io::Result<()> {
+    point(rt, EXPLOSION2, origin)?;
     numbers(
+        rt,
         b" first_colour= colour_count=",
         &[first as u64, count as u64],
-    );
+    )
 }
 
-fn temporary(t: Temporary) {
+fn temporary(rt: &impl Print, t: Temporary) -> io::Result<()> {
     match t {
-        Temporary::Point(kind, origin) => point(kind, origin),
-        Temporary::Line(kind, e, start, end) => line(kind, e, start, end),
-        Temporary::Explosion2(origin, first, count) => explosion2(origin, first, count),
+        Temporary::Point(kind, origin) => point(rt, kind, origin),
+        Temporary::Line(kind, e, start, end) => line(rt, kind, e, start, end),
+        Temporary::Explosion2(origin, first, count) => explosion2(rt, origin, first, count),
     }
 }
 
-fn static_sound(origin: Vector, sound: u8, volume: u8, attenuation: u8) {
-    vector(origin);
+fn static_sound(
+    rt: &impl Print,
+    origin: Vector,
+    sound: u8,
+    volume: u8,
+    attenuation: u8,
+) -> io::Result<()> {
+    vector(rt, origin)?;
     numbers(
+        rt,
         b" sound= volume= attenuation=",
         &[sound as u64, volume as u64, attenuation as u64],
-    );
+    )
 }
 
-fn track(from: u8, to: u8) {
-    numbers(b" from= to=", &[from as u64, to as u64]);
+fn track(rt: &impl Print, from: u8, to: u8) -> io::Result<()> {
+    numbers(rt, b" from= to=", &[from as u64, to as u64])
 }
 
 // ---- messages with a mask
 
-fn source(channel: u8, e: Entity, sound: u8, origin: Vector) {
-    stopsound(channel, e);
-    one(b" sound=", sound as u64);
-    vector(origin);
+fn source(rt: &impl Print, channel: u8, e: Entity, sound: u8, origin: Vector) -> io::Result<()> {
+    stopsound(rt, channel, e)?;
+    one(rt, b" sound=", sound as u64)?;
+    vector(rt, origin)
 }
 
-fn loudness(volume: u8, attenuation: u8) {
+fn loudness(rt: &impl Print, volume: u8, attenuation: u8) -> io::Result<()> {
     numbers(
+        rt,
         b" volume= attenuation=",
         &[volume as u64, attenuation as u64],
-    );
+    )
 }
 
-fn sound(s: Sound) {
+fn sound(rt: &impl Print, s: Sound) -> io::Result<()> {
     let e = s.entity;
     let origin = s.origin;
-    digits(b" mask=", s.mask as u64, 2);
-    loudness(s.volume, s.attenuation);
-    source(s.channel, e, s.sound, origin);
+    digits(rt, b" mask=", s.mask as u64, 2)?;
+    loudness(rt, s.volume, s.attenuation)?;
+    source(rt, s.channel, e, s.sound, origin)
 }
 
-fn filled_sound(s: FilledSound) {
+fn filled_sound(rt: &impl Print, s: FilledSound) -> io::Result<()> {
     let e = s.entity;
     let origin = s.origin;
-    say(b"sound");
-    loudness(s.volume, s.attenuation);
-    source(s.channel, e, s.sound, origin);
+    say(rt, b"sound")?;
+    loudness(rt, s.volume, s.attenuation)?;
+    source(rt, s.channel, e, s.sound, origin)
 }
 
-fn motion(m: Motion) {
+fn motion(rt: &impl Print, m: Motion) -> io::Result<()> {
     numbers(
+        rt,
         b" view_height= pitch= punch0= velocity0= punch1= velocity1= punch2= velocity2=",
         &[
             char(m.view_height),
@@ -232,22 +252,24 @@ fn motion(m: Motion) {
             char(m.punch2),
             char(m.velocity2),
         ],
-    );
+    )
 }
 
-fn arms(a: Arms) {
+fn arms(rt: &impl Print, a: Arms) -> io::Result<()> {
     numbers(
+        rt,
         b" weapon_frame= armour= weapon_model=",
         &[
             a.weapon_frame as u64,
             a.armour as u64,
             a.weapon_model as u64,
         ],
-    );
+    )
 }
 
-fn supplies(s: Supplies) {
+fn supplies(rt: &impl Print, s: Supplies) -> io::Result<()> {
     numbers(
+        rt,
         b" health= ammo= count0= count1= count2= count3= weapon=",
         &[
             short(s.health),
@@ -258,70 +280,71 @@ fn supplies(s: Supplies) {
             s.count3 as u64,
             s.weapon as u64,
         ],
-    );
+    )
 }
 
-fn place(items: i32, ground: bool, water: bool) {
+fn place(rt: &impl Print, items: i32, ground: bool, water: bool) -> io::Result<()> {
     numbers(
+        rt,
         b" items= ground= water=",
         &[long(items), bit(ground), bit(water)],
-    );
+    )
 }
 
-fn clientdata(c: Clientdata) {
+fn clientdata(rt: &impl Print, c: Clientdata) -> io::Result<()> {
     let m = c.motion;
     let a = c.arms;
     let s = c.supplies;
     let bits = c.mask;
-    digits(b" mask=", bits as u64, 4);
-    motion(m);
+    digits(rt, b" mask=", bits as u64, 4)?;
+    motion(rt, m)?;
     let ground = wire::has(bits, dem::clientdata::GROUND);
     let water = wire::has(bits, dem::clientdata::WATER);
-    place(c.items, ground, water);
-    arms(a);
-    supplies(s);
+    place(rt, c.items, ground, water)?;
+    arms(rt, a)?;
+    supplies(rt, s)
 }
 
-fn client(c: Client) {
+fn client(rt: &impl Print, c: Client) -> io::Result<()> {
     let m = c.motion;
     let a = c.arms;
     let s = c.supplies;
-    say(b"clientdata");
-    motion(m);
-    place(c.items, c.ground, c.water);
-    arms(a);
-    supplies(s);
+    say(rt, b"clientdata")?;
+    motion(rt, m)?;
+    place(rt, c.items, c.ground, c.water)?;
+    arms(rt, a)?;
+    supplies(rt, s)
 }
 
-fn record_fields(l: Look, effects: u8, p: Pose, bit5: bool) {
-    look(l);
-    one(b" effects=", effects as u64);
-    pose(p);
-    one(b" bit5=", bit(bit5));
+fn record_fields(rt: &impl Print, l: Look, effects: u8, p: Pose, bit5: bool) -> io::Result<()> {
+    look(rt, l)?;
+    one(rt, b" effects=", effects as u64)?;
+    pose(rt, p)?;
+    one(rt, b" bit5=", bit(bit5))
 }
 
 // Bit 7 of the number is no bit of the mask.
-fn update(u: Update) {
+fn update(rt: &impl Print, u: Update) -> io::Result<()> {
     let e = u.entity;
     let l = u.look;
     let p = u.pose;
     let number = u.number;
-    digits(b" mask=", u.high as u64, 2);
-    digits(b"", (number % 128) as u64, 2);
-    one(b" entity=", entity(e));
+    digits(rt, b" mask=", u.high as u64, 2)?;
+    digits(rt, b"", (number % 128) as u64, 2)?;
+    one(rt, b" entity=", entity(e))?;
     let bit5 = wire::has(number as u16, dem::update::RECORD);
-    record_fields(l, u.effects, p, bit5);
+    record_fields(rt, l, u.effects, p, bit5)
 }
 
-pub fn record(r: Record) {
+pub fn record(rt: &impl Print, r: Record) -> io::Result<()> {
     let l = r.look;
     let p = r.pose;
-    record_fields(l, r.effects, p, r.bit5);
+    record_fields(rt, l, r.effects, p, r.bit5)
 }
 
-fn filled_update(e: Entity, r: Record) {
-    one(b"update entity=", entity(e));
-    record(r);
+fn filled_update(rt: &impl Print, e: Entity, r: Record) -> io::Result<()> {
+    one(rt, b"update entity=", entity(e))?;
+    record(rt, r)
 }
 
 // ---- all of them
@@ -375,111 +398,106 @@ fn name_of(m: Message) -> usize {
 }
 
 // The word of a place in a list of words that have a blank behind each.
-fn word_at(words: &[u8], index: usize) {
-    let mut at = 0;
-    let mut i = 0;
-    while at < words.len() {
-        let end = bytes::scan::find(words, at, words.len(), b' ');
-        if i == index {
-            say(&words[at..end]);
-        }
-        at = end + 1;
-        i += 1;
+fn word_at(rt: &impl Print, words: &[u8], index: usize) -> io::Result<()> {
+    match words.split(|b| *b == b' ').nth(index) {
+        Some(word) => say(rt, word),
+        None => Ok(()),
     }
 }
 
-fn kind(i: usize) {
+fn kind(rt: &impl Print, i: usize) -> io::Result<()> {
     word_at(
+        rt,
         b"nop disconnect stat version view sound time print stufftext angles serverinfo style name frags clientdata stopsound colours particle damage static baseline point line pause signon centerprint killed secret static_sound intermission finale track sellscreen cutscene update explosion2 ",
         i,
-    );
+    )
 }
 
-fn view(e: Entity) {
-    one(b" entity=", entity(e));
+fn view(rt: &impl Print, e: Entity) -> io::Result<()> {
+    one(rt, b" entity=", entity(e))
 }
 
-fn placed(m: Message) {
+fn placed(rt: &impl Print, m: Message) -> io::Result<()> {
     match m {
-        Message::Sound(s) => sound(s),
-        Message::Clientdata(c) => clientdata(c),
-        Message::Particle(p) => particle(p),
-        Message::Damage(save, take, origin) => damage(save, take, origin),
-        Message::Static(l, p) => thing(l, p),
-        Message::Baseline(e, l, p) => baseline(e, l, p),
-        Message::Temporary(t) => temporary(t),
-        Message::StaticSound(v, a, b, c) => static_sound(v, a, b, c),
-        Message::Update(u) => update(u),
-        _ => {}
+        Message::Sound(s) => sound(rt, s),
+        Message::Clientdata(c) => clientdata(rt, c),
+        Message::Particle(p) => particle(rt, p),
+        Message::Damage(save, take, origin) => damage(rt, save, take, origin),
+        Message::Static(l, p) => thing(rt, l, p),
+        Message::Baseline(e, l, p) => baseline(rt, e, l, p),
+        Message::Temporary(t) => temporary(rt, t),
+        Message::StaticSound(v, a, b, c) => static_sound(rt, v, a, b, c),
+        Message::Update(u) => update(rt, u),
+        _ => Ok(()),
     }
 }
 
-fn numbered(m: Message) {
+fn numbered(rt: &impl Print, m: Message) -> io::Result<()> {
     match m {
-        Message::Stat(i, v) => stat(i, v),
-        Message::Version(v) => one(b" protocol=", long(v)),
-        Message::View(e) => view(e),
-        Message::Time(t) => digits(b" time=", t as u64, 8),
-        Message::SetAngles(a, b, c) => angles(a, b, c),
-        Message::Frags(p, v) => frags(p, v),
-        Message::Stopsound(channel, e) => stopsound(channel, e),
-        Message::Colours(p, v) => colours(p, v),
-        Message::Pause(v) => one(b" pause=", v as u64),
-        Message::Signon(v) => one(b" signon=", v as u64),
-        Message::Track(from, to) => track(from, to),
-        _ => placed(m),
+        Message::Stat(i, v) => stat(rt, i, v),
+        Message::Version(v) => one(rt, b" protocol=", long(v)),
+        Message::View(e) => view(rt, e),
+        Message::Time(t) => digits(rt, b" time=", t as u64, 8),
+        Message::SetAngles(a, b, c) => angles(rt, a, b, c),
+        Message::Frags(p, v) => frags(rt, p, v),
+        Message::Stopsound(channel, e) => stopsound(rt, channel, e),
+        Message::Colours(p, v) => colours(rt, p, v),
+        Message::Pause(v) => one(rt, b" pause=", v as u64),
+        Message::Signon(v) => one(rt, b" signon=", v as u64),
+        Message::Track(from, to) => track(rt, from, to),
+        _ => placed(rt, m),
     }
 }
 
-fn message(m: Message, text: &[u8], by_bytes: bool) {
-    kind(name_of(m));
+fn message(rt: &impl Print, m: Message, text: &[u8], by_bytes: bool) -> io::Result<()> {
+    kind(rt, name_of(m))?;
     match m {
-        Message::Print(t) => only_string(t, text, by_bytes),
-        Message::Stufftext(t) => only_string(t, text, by_bytes),
-        Message::Serverinfo(s) => serverinfo(s, text, by_bytes),
-        Message::Style(i, t) => style(i, t, text, by_bytes),
-        Message::Name(p, t) => name(p, t, text, by_bytes),
-        Message::Centerprint(t) => only_string(t, text, by_bytes),
-        Message::Finale(t) => only_string(t, text, by_bytes),
-        Message::Cutscene(t) => only_string(t, text, by_bytes),
-        _ => numbered(m),
+        Message::Print(t) => only_string(rt, t, text, by_bytes),
+        Message::Stufftext(t) => only_string(rt, t, text, by_bytes),
+        Message::Serverinfo(s) => serverinfo(rt, s, text, by_bytes),
+        Message::Style(i, t) => style(rt, i, t, text, by_bytes),
+        Message::Name(p, t) => name(rt, p, t, text, by_bytes),
+        Message::Centerprint(t) => only_string(rt, t, text, by_bytes),
+        Message::Finale(t) => only_string(rt, t, text, by_bytes),
+        Message::Cutscene(t) => only_string(rt, t, text, by_bytes),
+        _ => numbered(rt, m),
     }
 }
 
-fn plain(m: Message, text: &[u8]) {
-    say(b"plain ");
-    message(m, text, true);
+fn plain(rt: &impl Print, m: Message, text: &[u8]) -> io::Result<()> {
+    say(rt, b"plain ")?;
+    message(rt, m, text, true)
 }
 
-fn filled(f: Filled, text: &[u8]) {
+fn filled(rt: &impl Print, f: Filled, text: &[u8]) -> io::Result<()> {
     match f {
-        Filled::Plain(m) => plain(m, text),
-        Filled::Sound(s) => filled_sound(s),
-        Filled::Clientdata(c) => client(c),
-        Filled::Update(e, r) => filled_update(e, r),
+        Filled::Plain(m) => plain(rt, m, text),
+        Filled::Sound(s) => filled_sound(rt, s),
+        Filled::Clientdata(c) => client(rt, c),
+        Filled::Update(e, r) => filled_update(rt, e, r),
     }
 }
 
-fn found(m: Message, f: Filled, next: usize, text: &[u8]) {
-    count(b"  found next ", next);
-    say(b"\n  sent ");
-    message(m, text, false);
-    say(b"\n  filled ");
-    filled(f, text);
-    say(b"\n");
+fn found(rt: &impl Print, m: Message, f: Filled, next: usize, text: &[u8]) -> io::Result<()> {
+    count(rt, b"  found next ", next)?;
+    say(rt, b"\n  sent ")?;
+    message(rt, m, text, false)?;
+    say(rt, b"\n  filled ")?;
+    filled(rt, f, text)?;
+    say(rt, b"\n")
 }
 
 // What a reader of a message in a lent text answers.
-pub fn answer(a: MessageAnswer, text: &[u8]) {
+pub fn answer(rt: &impl Print, a: MessageAnswer, text: &[u8]) -> io::Result<()> {
     match a {
-        MessageAnswer::Found(m, f, next) => found(m, f, next, text),
-        MessageAnswer::End => say(b"  end\n"),
-        MessageAnswer::Refused(n, at) => refusal(n, at),
+        MessageAnswer::Found(m, f, next) => found(rt, m, f, next, text),
+        MessageAnswer::End => say(rt, b"  end\n"),
+        MessageAnswer::Refused(n, at) => refusal(rt, n, at),
     }
 }
 
-pub fn refusal(n: u8, at: usize) {
-    say(b"  ");
-    refused(n, at);
-    say(b"\n");
+pub fn refusal(rt: &impl Print, n: u8, at: usize) -> io::Result<()> {
+    say(rt, b"  ")?;
+    refused(rt, n, at)?;
+    say(rt, b"\n")
 }

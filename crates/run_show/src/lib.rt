@@ -1,44 +1,49 @@
 // Numbers, bytes, messages and scenes on standard output, for the programs whose output is stored. Numbers are decimal; masks and the bits
 // of floats have as many hex digits as they have places for. Fields have the names that the second reader has for them.
+#![tactic(auto)]
+
 pub mod fields;
 pub mod scenes;
 
+ghost use Rattle.std.specs.Prelude.{◌≤◌, length};
+
 use dem_types::{Look, Pose, Time, Vector};
+use memchr::memchr;
+use std::io;
 
-pub fn say(text: &[u8]) {
-    io::write_all(1, text);
+pub fn say(rt: &impl Print, text: &[u8]) -> io::Result<()> {
+    rt.write_all(text)
 }
 
-pub fn count(name: &[u8], v: usize) {
-    say(name);
-    io::print_decimal(1, v as u64);
+pub fn count(rt: &impl Print, name: &[u8], v: usize) -> io::Result<()> {
+    say(rt, name)?;
+    print!(rt; "{v}")
 }
 
-pub fn refused(refusal: u8, place: usize) {
-    count(b"refused ", refusal as usize);
-    count(b" at ", place);
+pub fn refused(rt: &impl Print, refusal: u8, place: usize) -> io::Result<()> {
+    count(rt, b"refused ", refusal as usize)?;
+    count(rt, b" at ", place)
 }
 
-pub fn digits(name: &[u8], v: u64, width: usize) {
-    say(name);
-    io::print_hex(1, v, width);
+pub fn digits(rt: &impl Print, name: &[u8], v: u64, width: usize) -> io::Result<()> {
+    say(rt, name)?;
+    let places = width.min(16);
+    print!(rt; "{v:0places$x}")
 }
 
-fn wide(b: u8) -> u64 {
-    b as u64
-}
-
-fn show_byte(b: &[u8], i: usize) {
+fn show_byte(rt: &impl Print, b: &[u8], i: usize) -> io::Result<()> {
     if i < b.len() {
-        io::print_hex(1, wide(b[i]), 2);
+        print!(rt; "{:02x}", b[i])?;
     }
+    Ok(())
 }
 
 // The first bytes.
-pub fn hex(b: &[u8], count: usize) {
+pub fn hex(rt: &impl Print, b: &[u8], count: usize) -> io::Result<()> {
     for i in 0..count {
-        show_byte(b, i);
+        show_byte(rt, b, i)?;
     }
+    Ok(())
 }
 
 // What a signed number is as one of 64 bits: of one below zero, its size behind this.
@@ -75,50 +80,61 @@ pub fn bit(set: bool) -> u64 {
     0
 }
 
-pub fn decimal(v: u64) {
+pub fn decimal(rt: &impl Print, v: u64) -> io::Result<()> {
     if v < BELOW_ZERO {
-        io::print_decimal(1, v);
+        print!(rt; "{v}")
     } else {
-        say(b"-");
-        io::print_decimal(1, v - BELOW_ZERO);
+        print!(rt; "-{}", v - BELOW_ZERO)
+    }
+}
+
+// The place of the first such byte from a place on, or the end where there is none.
+pub fn find(bytes: &[u8], from: usize, b: u8) -> usize
+    requires { from ≤ length bytes.now }
+    ensures low { from ≤ result }
+    ensures high { result ≤ length bytes.now }
+{
+    match memchr(b, &bytes[from..]) {
+        Some(i) => from + i,
+        None => bytes.len(),
     }
 }
 
 // The name from a place on, up to its equals sign, and its value; the place behind the name.
-fn field(names: &[u8], at: usize, v: u64) -> usize {
+fn field(rt: &impl Print, names: &[u8], at: usize, v: u64) -> io::Result<usize> {
     if at < names.len() {
-        let end = bytes::scan::find(names, at, names.len(), b'=');
-        say(&names[at..end]);
-        say(b"=");
-        decimal(v);
-        return end + 1;
+        let end = find(names, at, b'=');
+        say(rt, &names[at..end])?;
+        say(rt, b"=")?;
+        decimal(rt, v)?;
+        return Ok(end + 1);
     }
-    at
+    Ok(at)
 }
 
 // Numbers, each behind its name; the names stand one behind the other, each with its equals sign.
-pub fn numbers(names: &[u8], values: &[u64]) {
+pub fn numbers(rt: &impl Print, names: &[u8], values: &[u64]) -> io::Result<()> {
     let mut at = 0;
-    let mut i = 0;
-    while i < values.len() {
-        at = field(names, at, values[i]);
-        i += 1;
+    for v in values {
+        at = field(rt, names, at, *v)?;
     }
+    Ok(())
 }
 
-pub fn time(t: Time) {
+pub fn time(rt: &impl Print, t: Time) -> io::Result<()> {
     match t {
-        Time::None => say(b" time=none"),
-        Time::At(v) => digits(b" time=", v as u64, 8),
+        Time::None => say(rt, b" time=none"),
+        Time::At(v) => digits(rt, b" time=", v as u64, 8),
     }
 }
 
-pub fn vector(v: Vector) {
-    numbers(b" x= y= z=", &[short(v.x), short(v.y), short(v.z)]);
+pub fn vector(rt: &impl Print, v: Vector) -> io::Result<()> {
+    numbers(rt, b" x= y= z=", &[short(v.x), short(v.y), short(v.z)])
 }
 
-pub fn look(l: Look) {
+pub fn look(rt: &impl Print, l: Look) -> io::Result<()> {
     numbers(
+        rt,
         b" model= frame= colormap= skin=",
         &[
             l.model as u64,
@@ -126,11 +142,12 @@ pub fn look(l: Look) {
             l.colormap as u64,
             l.skin as u64,
         ],
-    );
+    )
 }
 
-pub fn pose(p: Pose) {
+pub fn pose(rt: &impl Print, p: Pose) -> io::Result<()> {
     numbers(
+        rt,
         b" x= angle0= y= angle1= z= angle2=",
         &[
             short(p.x),
@@ -140,5 +157,5 @@ pub fn pose(p: Pose) {
             short(p.z),
             char(p.angle2),
         ],
-    );
+    )
 }

@@ -3,13 +3,15 @@
 use crate::{bit, count, decimal, fields, long, look, numbers, pose, say, short, time};
 use dem::limit::{ENTITY_COUNT, PLAYER_COUNT, STAT_COUNT};
 use dem_scene::{Baseline, PlayerLine, Record, Rest, Scene};
+use std::io;
 
-fn single(rest: Rest, present_count: usize) {
+fn single(rt: &impl Print, rest: Rest, present_count: usize) -> io::Result<()> {
     let view = rest.view;
     let latest = rest.time;
-    numbers(b"  scene ended=", &[bit(rest.ended)]);
-    time(latest);
+    numbers(rt, b"  scene ended=", &[bit(rest.ended)])?;
+    time(rt, latest)?;
     numbers(
+        rt,
         b" limit= view= pause= statics= present=",
         &[
             rest.limit as u64,
@@ -18,83 +20,90 @@ fn single(rest: Rest, present_count: usize) {
             rest.statics as u64,
             present_count as u64,
         ],
-    );
+    )
 }
 
-fn stat(i: usize, v: i32) {
+fn stat(rt: &impl Print, i: usize, v: i32) -> io::Result<()> {
     if v != 0 {
-        count(b" stat ", i);
-        numbers(b"=", &[long(v)]);
+        count(rt, b" stat ", i)?;
+        numbers(rt, b"=", &[long(v)])?;
     }
+    Ok(())
 }
 
-fn stats(values: [i32; STAT_COUNT]) {
+fn stats(rt: &impl Print, values: [i32; STAT_COUNT]) -> io::Result<()> {
     for i in 0..STAT_COUNT {
-        stat(i, values[i]);
+        stat(rt, i, values[i])?;
     }
+    Ok(())
 }
 
-pub fn line(l: PlayerLine) {
-    say(b" ");
-    decimal(short(l.frags));
-    say(b"/");
-    decimal(l.colours as u64);
+pub fn line(rt: &impl Print, l: PlayerLine) -> io::Result<()> {
+    say(rt, b" ")?;
+    decimal(rt, short(l.frags))?;
+    say(rt, b"/")?;
+    decimal(rt, l.colours as u64)
 }
 
-fn player(i: usize, l: PlayerLine) {
+fn player(rt: &impl Print, i: usize, l: PlayerLine) -> io::Result<()> {
     if l.frags != 0 || l.colours != 0 {
-        count(b" player ", i);
-        line(l);
+        count(rt, b" player ", i)?;
+        line(rt, l)?;
     }
+    Ok(())
 }
 
-fn players(lines: [PlayerLine; PLAYER_COUNT]) {
+fn players(rt: &impl Print, lines: [PlayerLine; PLAYER_COUNT]) -> io::Result<()> {
     for i in 0..PLAYER_COUNT {
-        player(i, lines[i]);
+        player(rt, i, lines[i])?;
     }
+    Ok(())
 }
 
-fn record(i: usize, r: Record, present: bool) {
+fn record(rt: &impl Print, i: usize, r: Record, present: bool) -> io::Result<()> {
     if present {
-        count(b"\n  record ", i);
-        fields::record(r);
+        count(rt, b"\n  record ", i)?;
+        fields::record(rt, r)?;
     }
+    Ok(())
 }
 
-fn records(s: Scene) {
+fn records(rt: &impl Print, s: Scene) -> io::Result<()> {
     for i in 0..ENTITY_COUNT {
-        record(i, s.records[i], s.present[i]);
+        record(rt, i, s.records[i], s.present[i])?;
     }
+    Ok(())
 }
 
-pub fn show(s: Scene) {
+pub fn show(rt: &impl Print, s: Scene) -> io::Result<()> {
     let rest = s.rest;
     let values = rest.stats;
     let lines = rest.players;
-    single(rest, s.present_count);
-    stats(values);
-    players(lines);
-    records(s);
-    say(b"\n");
+    single(rt, rest, s.present_count)?;
+    stats(rt, values)?;
+    players(rt, lines)?;
+    records(rt, s)?;
+    say(rt, b"\n")
 }
 
-fn baseline(b: Baseline) {
+fn baseline(rt: &impl Print, b: Baseline) -> io::Result<()> {
     let l = b.look;
     let p = b.pose;
-    say(b"  baseline");
-    look(l);
-    pose(p);
+    say(rt, b"  baseline")?;
+    look(rt, l)?;
+    pose(rt, p)
 }
 
-fn one_record(r: Record, present: bool) {
-    numbers(b"\n  record present=", &[bit(present)]);
-    fields::record(r);
-    say(b"\n");
+fn one_record(rt: &impl Print, r: Record, present: bool) -> io::Result<()> {
+    numbers(rt, b"\n  record present=", &[bit(present)])?;
+    fields::record(rt, r)?;
+    say(rt, b"\n")
 }
 
-pub fn entity(s: Scene, i: usize) {
+pub fn entity(rt: &impl Print, s: Scene, i: usize) -> io::Result<()> {
     if i < ENTITY_COUNT {
-        baseline(s.baselines[i]);
-        one_record(s.records[i], s.present[i]);
+        baseline(rt, s.baselines[i])?;
+        one_record(rt, s.records[i], s.present[i])?;
     }
+    Ok(())
 }

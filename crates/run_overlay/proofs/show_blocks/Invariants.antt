@@ -1,0 +1,6 @@
+-- What is read is within the input array.
+use Rattle.std.proofs.Common.{◌≡◌, ◌≤◌, length}
+use Rattle.run_overlay.proofs.show_blocks.Given as goal
+
+abbrev pub invariant-loop : goal.invariant-loop
+invariant-loop l = (length l.input ≡ length l.fn.input) × (l.len ≤ length l.input)

@@ -1,4 +1,4 @@
-//! Links the proved library, which `rt staticlib run_speed` writes.
+//! Links the proved library, which `scripts/build-library run_speed` writes.
 
 fn main() {
     let folder = std::env::current_dir().unwrap().join("../target/staticlib");

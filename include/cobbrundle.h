@@ -5,12 +5,12 @@
  * answer what the definitions of recording, refusal and normal form say, for any bytes (crates/exports, crates/dem/specs).
  *
  * The functions allocate nothing and keep nothing between calls, so any number of threads may call them at once. A call
- * takes less than 320 KB of stack, as measured (scripts/memory); that is not proved.
+ * takes less than 320 KB of stack, as measured with an earlier kit (scripts/memory); that is not proved.
  *
  * What the caller owes: no pointer is null, also where a length is 0; `bytes` may be read for `length` bytes, `room`
  * may be read and written for `room_length` bytes; what a pointer lends for writing overlaps nothing else that is lent.
  *
- * To link: libexports.a, which `rt staticlib exports` writes to target/staticlib (x86-64 Linux).
+ * To link: libexports.a, which `scripts/build-library exports` writes to target/staticlib (x86-64 Linux).
  */
 #ifndef COBBRUNDLE_H
 #define COBBRUNDLE_H

@@ -1,4 +1,4 @@
-//! Links the proved library, which `rt staticlib exports` writes; `COBBRUNDLE_LIB` names another folder that has it.
+//! Links the proved library, which `scripts/build-library exports` writes; `COBBRUNDLE_LIB` names another folder that has it.
 
 use std::path::PathBuf;
 

@@ -14,8 +14,9 @@ use Rattle.dem_types.specs.declared.Time.{Time}
 use Rattle.dem_types.specs.declared.Time.TheVariants.{At}
 use Rattle.dem.specs.Limits.{entity_count, player_count, static_limit}
 use Rattle.dem_types.specs.Values.{time_of}
-use Rattle.dem_scene.specs.Views.{Tables, scene_with, line_of}
+use Rattle.dem_scene.specs.Views.{Tables, scene_with, scene_of, tables_of, line_of}
 use Rattle.dem_scene.specs.declared.Rest.{Rest}
+use Rattle.dem_scene.specs.declared.Scene.{Scene}
 
 -- An array's length, as owning it tells it.
 pub length_of : {A B : Type 0} (f : A → B) (l : List A) (n : ℕ) → length (map f l) ≡ n → length l ≡ n
@@ -49,3 +50,8 @@ time_is bits h = sym (ap (λ (b : Bool). b && true && true) (time_bits_lem bits 
     same : (b : Bool) → (b && true && true) ≡ b
     same true = refl
     same false = refl
+
+-- What `in_range` promises of a scene's own tables is what the scene's range is.
+pub range_answered : (x : Scene) (r : Bool)
+    → ((t : Tables) → t.present ≡ x.present → t.present_count ≡ x.present_count → r ≡ in_range (scene_with t x.rest)) → in_range (scene_of x) ≡ r
+range_answered x r h = sym (h (tables_of x) refl refl)

@@ -5,7 +5,7 @@
 pub mod fields;
 pub mod scenes;
 
-ghost use Rattle.std.specs.Prelude.{◌≤◌, length};
+ghost use Rattle.std.specs.Prelude.{◌≤◌, length, ◌≡◌, ◌≢◌, ◌<◌, ℕ, slice_index};
 
 use dem_types::{Look, Pose, Time, Vector};
 use memchr::memchr;
@@ -93,6 +93,8 @@ pub fn find(bytes: &[u8], from: usize, b: u8) -> usize
     requires { from ≤ length bytes.now }
     ensures low { from ≤ result }
     ensures high { result ≤ length bytes.now }
+    ensures before { (k : ℕ) → from ≤ k → k < result → slice_index bytes.now k ≢ b }
+    ensures found { result < length bytes.now → slice_index bytes.now result ≡ b }
 {
     match memchr(b, &bytes[from..]) {
         Some(i) => from + i,

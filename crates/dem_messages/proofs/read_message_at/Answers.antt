@@ -21,9 +21,10 @@ use Rattle.dem_types.specs.Places.{in_place, values_to}
 use Rattle.dem_types.proofs.InPlace.{placed_values}
 use Rattle.dem_parts.specs.Kinds.{gotten_message, left_at}
 use Rattle.dem_reader.proofs.Readings.{read_in-place, read_values, read_numbered}
+use Rattle.dem_scene.proofs.Ranges.{range_answered}
 use Rattle.dem_scene.specs.Views.{scene_with, scene_of, tables_of}
 use Rattle.dem_messages.proofs.Messages.{ended-reply, refused-reply, found-reply}
-use Rattle.dem_messages.proofs.read_message_at.Goals.{After-in_range, After-read_message-m, Else-bytes-at, Else-not-in_range}
+use Rattle.dem_messages.proofs.read_message_at.Goals.{After-read_message-m, Else-bytes-at, Else-not-in_range}
 use Rattle.dem_messages.proofs.read_message_at.Goals as goal
 
 before_end : {m n : ℕ} → (m ≡ n → ⊥) → m ≤ n → m < n
@@ -37,12 +38,8 @@ found-equal {t} {u} {vs} {ws} {fs} {gs} {m} {n} p o q r = λ i. found (p i) (o i
 
 -- ---- what was tested
 
--- What the range test answers.
-ranged : (c : After-in_range) → in_range (scene_of c.args.scene) ≡ c.in_range.result
-ranged c = sym (c.in_range.ensures.value (tables_of c.args.scene) refl refl)
-
 in-range' : (c : Else-not-in_range) → in_range (scene_of c.args.scene) ≡ true
-in-range' c = sym (c.in_range.ensures.value (tables_of c.args.scene) refl refl) ∙ c.if-not-in_range.false
+in-range' c = range_answered c.args.scene c.in_range.result c.in_range.ensures.value ∙ c.if-not-in_range.false
 
 few : (c : Else-not-in_range) → c.args.scene.present_count ≤ entity_count
 few c = c.in_range.ensures.bound c.if-not-in_range.false
@@ -61,7 +58,7 @@ read-in c =
 pub returns-then-not-in_range : goal.returns-then-not-in_range
 returns-then-not-in_range c =
     let a = c.args in
-    sym (item_wrong messages (scene_of a.scene) a.bytes.now a.at (ranged (goal.at.returns-then-not-in_range c).After-in_range ∙ c.if-not-in_range.true))
+    sym (item_wrong messages (scene_of a.scene) a.bytes.now a.at (range_answered c.args.scene c.in_range.result c.in_range.ensures.value ∙ c.if-not-in_range.true))
 
 pub returns-then-at-bytes : goal.returns-then-at-bytes
 returns-then-at-bytes c =

@@ -10,22 +10,19 @@ use Rattle.dem.specs.Scene.{Context, context_of, in_range}
 use Rattle.dem.specs.Message.{layout, layout_in}
 use Rattle.dem.proofs.RangeLaws.{range→}
 use Rattle.dem_types.specs.Values.{values_by}
+use Rattle.dem_scene.proofs.Ranges.{range_answered}
 use Rattle.dem_scene.specs.Views.{scene_with, scene_of, tables_of}
 use Rattle.dem_writer.specs.Bytes.{pieces_bytes}
 use Rattle.dem_writer.proofs.SizeLaws.{message-size}
 use Rattle.wire.specs.Cursors.{placed}
 use Rattle.dem_messages.proofs.Writing.{write_wrong, write-ended, write_unreadable, short-reply, done-reply, placed_texts, allowed_numbered}
-use Rattle.dem_messages.proofs.write_message.Goals.{After-in_range, After-is_allowed, After-pieces_of-pieces, Else-not-in_range, Else-not-is_allowed}
+use Rattle.dem_messages.proofs.write_message.Goals.{After-is_allowed, After-pieces_of-pieces, Else-not-in_range, Else-not-is_allowed}
 use Rattle.dem_messages.proofs.write_message.Goals as goal
 
 -- ---- what was tested
 
--- What the range test answers.
-ranged : (c : After-in_range) → in_range (scene_of c.args.scene) ≡ c.in_range.result
-ranged c = sym (c.in_range.ensures.value (tables_of c.args.scene) refl refl)
-
 in-range' : (c : Else-not-in_range) → in_range (scene_of c.args.scene) ≡ true
-in-range' c = sym (c.in_range.ensures.value (tables_of c.args.scene) refl refl) ∙ c.if-not-in_range.false
+in-range' c = range_answered c.args.scene c.in_range.result c.in_range.ensures.value ∙ c.if-not-in_range.false
 
 few : (c : Else-not-in_range) → c.args.scene.present_count ≤ entity_count
 few c = c.in_range.ensures.bound c.if-not-in_range.false
@@ -51,7 +48,7 @@ printed c h =
 -- ---- the answers
 
 pub returns-then-not-in_range : goal.returns-then-not-in_range
-returns-then-not-in_range c = let a = c.args in sym (write_wrong (scene_of a.scene) _ a.room.now (ranged (goal.at.returns-then-not-in_range c).After-in_range ∙ c.if-not-in_range.true))
+returns-then-not-in_range c = let a = c.args in sym (write_wrong (scene_of a.scene) _ a.room.now (range_answered c.args.scene c.in_range.result c.in_range.ensures.value ∙ c.if-not-in_range.true))
 
 pub returns-then-rest : goal.returns-then-rest
 unfolding scene_with

@@ -7,20 +7,14 @@ use lib.ListN.{length}
 use Rattle.format.specs.Bytes.{Bytes}
 use Rattle.dem.specs.Scene.{in_range}
 use Rattle.format.proofs.ByteLaws.{bytes_of}
-use Rattle.dem_scene.specs.Views.{scene_of, tables_of}
+use Rattle.dem_scene.proofs.Ranges.{range_answered}
+use Rattle.dem_scene.specs.Views.{scene_of}
 use Rattle.dem_recordings.proofs.NormalForms.{normal_wrong, normal_end, normal_past, normal-refused, normal-written}
-use Rattle.dem_recordings.proofs.normal_block_at.Goals.{After-in_range, Else-bytes-at, Else-not-in_range}
+use Rattle.dem_recordings.proofs.normal_block_at.Goals.{Else-bytes-at, Else-not-in_range}
 use Rattle.dem_recordings.proofs.normal_block_at.Goals as goal
 
--- What the range test answers.
-ranged : (c : goal.After-in_range) → in_range (scene_of c.args.scene) ≡ c.in_range.result
-ranged c =
-    let x = c.args.scene in
-    sym (c.in_range.ensures.value (tables_of x) refl refl)
-
 in-range' : (c : goal.Else-not-in_range) → in_range (scene_of c.args.scene) ≡ true
-in-range' c = (let x = c.args.scene in
-    sym (c.in_range.ensures.value (tables_of x) refl refl)) ∙ c.if-not-in_range.false
+in-range' c = range_answered c.args.scene c.in_range.result c.in_range.ensures.value ∙ c.if-not-in_range.false
 
 before_end : {m n : ℕ} → (m ≡ n → ⊥) → m ≤ n → m < n
 before_end {m} {n} p h = omega arith
@@ -34,7 +28,7 @@ bytes c = bytes_of c.args.bytes.now (λ i. (c.type_inv.bytes i).fits)
 pub returns-then-not-in_range : goal.returns-then-not-in_range
 returns-then-not-in_range c =
     let a = c.args in
-    sym (normal_wrong (scene_of a.scene) a.bytes.now a.at a.room.now (ranged (goal.at.returns-then-not-in_range c).After-in_range ∙ c.if-not-in_range.true))
+    sym (normal_wrong (scene_of a.scene) a.bytes.now a.at a.room.now (range_answered c.args.scene c.in_range.result c.in_range.ensures.value ∙ c.if-not-in_range.true))
 
 pub returns-then-at-bytes : goal.returns-then-at-bytes
 returns-then-at-bytes c =

@@ -5,20 +5,14 @@ use mathlib.Core.Bool.{true}
 use Rattle.format.specs.Bytes.{Bytes}
 use Rattle.dem.specs.Scene.{in_range}
 use Rattle.format.proofs.ByteLaws.{bytes_of}
-use Rattle.dem_scene.specs.Views.{scene_of, tables_of}
+use Rattle.dem_scene.proofs.Ranges.{range_answered}
+use Rattle.dem_scene.specs.Views.{scene_of}
 use Rattle.dem_recordings.proofs.Recordings.{blocks_wrong, blocks_past, blocks_once, blocks_twice}
-use Rattle.dem_recordings.proofs.read_blocks_at.Goals.{After-in_range, Else-bytes-at, Else-not-in_range}
+use Rattle.dem_recordings.proofs.read_blocks_at.Goals.{Else-bytes-at, Else-not-in_range}
 use Rattle.dem_recordings.proofs.read_blocks_at.Goals as goal
 
--- What the range test answers.
-ranged : (c : goal.After-in_range) → in_range (scene_of c.args.scene) ≡ c.in_range.result
-ranged c =
-    let x = c.args.scene in
-    sym (c.in_range.ensures.value (tables_of x) refl refl)
-
 in-range' : (c : goal.Else-not-in_range) → in_range (scene_of c.args.scene) ≡ true
-in-range' c = (let x = c.args.scene in
-    sym (c.in_range.ensures.value (tables_of x) refl refl)) ∙ c.if-not-in_range.false
+in-range' c = range_answered c.args.scene c.in_range.result c.in_range.ensures.value ∙ c.if-not-in_range.false
 
 bytes : (c : goal.Else-bytes-at) → Bytes c.args.bytes.now
 bytes c = bytes_of c.args.bytes.now (λ i. (c.type_inv.bytes i).fits)
@@ -26,7 +20,7 @@ bytes c = bytes_of c.args.bytes.now (λ i. (c.type_inv.bytes i).fits)
 pub returns-then-not-in_range : goal.returns-then-not-in_range
 returns-then-not-in_range c =
     let a = c.args in
-    sym (blocks_wrong (scene_of a.scene) a.bytes.now a.at (ranged (goal.at.returns-then-not-in_range c).After-in_range ∙ c.if-not-in_range.true))
+    sym (blocks_wrong (scene_of a.scene) a.bytes.now a.at (range_answered c.args.scene c.in_range.result c.in_range.ensures.value ∙ c.if-not-in_range.true))
 
 pub returns-then-bytes-at : goal.returns-then-bytes-at
 returns-then-bytes-at c =

@@ -16,7 +16,7 @@ use Rattle.format.proofs.AtLaws.{scan-start, scan_step, scan_wrong}
 use Rattle.wire.specs.Cursors.{gotten, parse_at}
 use Rattle.strings.specs.Names.{names_in}
 use Rattle.strings.specs.Places.{no_zero}
-use Rattle.strings.proofs.StringLaws.{at_kept, room_inside, no_zero-some, scan_out}
+use Rattle.strings.proofs.StringLaws.{at_kept, room_inside, no_zero-some, scan_out, two_clauses}
 use Rattle.strings.proofs.NameLoops.{Name, end_at, lists_left, lists_open, lists-done, left-refused, left_empty, left_full}
 use Rattle.strings.proofs.NameLoops.{left_over, names-refused, names-found}
 use Rattle.strings.proofs.read_names.Goals.{Else-n-room, Left-lists, Then-b-eq0}
@@ -29,10 +29,6 @@ abbrev Left : List ℕ → ℕ → ℕ → ℕ → Type 0
 Left s start i r =
     (end_at s (lists_left name_limit 2) start ≡ gotten s tt (record { at = i; refusal = r })) × (r ≡ 0 → (start ≤ i) × (i ≤ length s))
 
--- The two clauses.
-both : {P Q : Type 0} → P × Q → record { cursor_value : P; place : Q }
-both p = record { cursor_value = p.0; place = p.1 }
-
 -- A byte of the room stands before the end, and before the limit.
 inside : (c : goal.Else-n-room)
     → (c.names.i + c.bytes.n < length c.args.s.now)
@@ -44,7 +40,7 @@ unfolding parse_at
 returns-then-refusal-ne0 c =
     let a = c.args in
     let n = c.if-refusal-ne0.true in
-    rw c.no_text.ensures (both (kept a.s.now _ (names_in []) a.c.at 0 _ _ (at_kept a.s.now (parse _) a.c _ n, λ z. absurd (n z))))
+    rw c.no_text.ensures (two_clauses (kept a.s.now _ (names_in []) a.c.at 0 _ _ (at_kept a.s.now (parse _) a.c _ n, λ z. absurd (n z))))
 
 pub lists-init : goal.lists-init
 lists-init c = (c.if-refusal-ne0.false, omega arith, omega arith, λ h. omega arith, refl)
@@ -161,7 +157,7 @@ pub returns-then-refusal-ne0-2 : goal.returns-then-refusal-ne0-2
 returns-then-refusal-ne0-2 c =
     let a = c.args in
     let m = met (goal.at.returns-then-refusal-ne0-2 c).Left-lists in
-    rw c.no_text-then-refusal-ne0-2.ensures (both (kept a.s.now _ (names_in []) a.c.at 0 _ _ (
+    rw c.no_text-then-refusal-ne0-2.ensures (two_clauses (kept a.s.now _ (names_in []) a.c.at 0 _ _ (
       names-refused a.s.now name_limit a.c c.if-refusal-ne0.false c.lists-test.i c.lists-test.refusal m.0 _
           c.if-refusal-ne0-2.true,
       λ z. absurd (c.if-refusal-ne0-2.true z),
@@ -177,7 +173,7 @@ returns c =
     let m = met (goal.at.returns c).Left-lists in
     let z = c.if-refusal-ne0-2.false in
     let h = m.1 z in
-    rw c.some_text.ensures (both (kept a.s.now _ (names_in []) a.c.at 0 _ _ (
+    rw c.some_text.ensures (two_clauses (kept a.s.now _ (names_in []) a.c.at 0 _ _ (
       names-found a.s.now name_limit a.c c.if-refusal-ne0.false c.lists-test.i c.lists-test.refusal m.0
           (bytes_of a.s.now (λ i. (bytes i).fits)) z h.0 h.1,
       λ x. (refl, omega arith, h.1),

@@ -12,13 +12,9 @@ use Rattle.format.specs.Refusal.{code, wrong_string}
 use Rattle.format.specs.Bytes.{free, read_string}
 use Rattle.format.proofs.AtLaws.{scan_step, scan-found, scan_wrong}
 use Rattle.wire.specs.Cursors.{string_at}
-use Rattle.strings.proofs.StringLaws.{at_kept, at-refused, at-found, room_inside, no_zero-some, scan_out}
+use Rattle.strings.proofs.StringLaws.{at_kept, at-refused, at-found, room_inside, no_zero-some, scan_out, two_clauses}
 use Rattle.strings.proofs.read_text.Goals.{In-loop-n}
 use Rattle.strings.proofs.read_text.Goals as goal
-
--- The two clauses.
-both : {P Q : Type 0} → P × Q → record { cursor_value : P; place : Q }
-both p = record { cursor_value = p.0; place = p.1 }
 
 -- A byte of the room stands before the end, and before the limit.
 inside : (c : goal.In-loop-n)
@@ -31,7 +27,7 @@ unfolding string_at
 returns-then-refusal-ne0 c =
     let a = c.args in
     let n = c.if-refusal-ne0.true in
-    rw c.no_text.ensures (both (kept a.s.now _ (λ t. t) a.c.at 1 _ _ (at_kept a.s.now (read_string string_limit free) a.c [] n, λ z. absurd (n z))))
+    rw c.no_text.ensures (two_clauses (kept a.s.now _ (λ t. t) a.c.at 1 _ _ (at_kept a.s.now (read_string string_limit free) a.c [] n, λ z. absurd (n z))))
 
 pub plain_run-n-requires : goal.plain_run-n-requires
 plain_run-n-requires c = c.room_at-room.ensures
@@ -57,7 +53,7 @@ returns-then-b-eq0 c =
     let a = c.args in
     let n = c.loop-n.n in
     let i = inside (goal.at.returns-then-b-eq0 c).In-loop-n in
-    rw c.some_text.ensures (both (kept a.s.now _ (λ t. t) a.c.at 1 _ _ (
+    rw c.some_text.ensures (two_clauses (kept a.s.now _ (λ t. t) a.c.at 1 _ _ (
       at-found a.s.now (read_string string_limit free) a.c (take n (drop a.c.at a.s.now)) (a.c.at + n + 1)
           c.if-refusal-ne0.false
           (scan-found a.s.now string_limit a.c.at free n i.1 i.0 c.if-b-eq0.true c.loop-n.invariant.1),
@@ -70,7 +66,7 @@ returns-then-b c =
     let a = c.args in
     let n = c.loop-n.n in
     let i = inside (goal.at.returns-then-b c).In-loop-n in
-    rw c.no_text-then-b.ensures (both (kept a.s.now _ (λ t. t) a.c.at 1 _ _ (
+    rw c.no_text-then-b.ensures (two_clauses (kept a.s.now _ (λ t. t) a.c.at 1 _ _ (
       at-refused a.s.now (read_string string_limit free) a.c [] a.c.at (code wrong_string) c.if-refusal-ne0.false
           (scan_wrong a.s.now string_limit a.c.at free n i.1 i.0 c.if-b.true c.loop-n.invariant.1) (λ z. omega arith),
       λ z. omega arith,
@@ -91,7 +87,7 @@ returns c =
     let a = c.args in
     let m = c.room_at-room in
     let z = c.no_zero.ensures in
-    rw c.no_text-2.ensures (both (kept a.s.now _ (λ t. t) a.c.at 1 _ _ (
+    rw c.no_text-2.ensures (two_clauses (kept a.s.now _ (λ t. t) a.c.at 1 _ _ (
       at-refused a.s.now (read_string string_limit free) a.c [] a.c.at _ c.if-refusal-ne0.false
           (scan_out a.s.now a.c.at m.result c.loop-n.n _ free m.ensures (omega arith) z c.loop-n.invariant.1) (no_zero-some m.result _ z),
       λ x. absurd (no_zero-some m.result _ z x),

@@ -12,7 +12,9 @@ use borrow.Author.Tests.{ltb-true, ltb-false}
 use lib.Dec.{ltb}
 use lib.ListN.{length, take, drop}
 use lib.Seq.{take-append_seam, drop-append_seam}
+use Rattle.std.specs.Prelude.{Some, Ok}
 use Rattle.format.specs.Bytes.{Bytes, Result, found, refused}
+use Rattle.format.specs.Refusals.{number_of}
 use Rattle.dem.specs.Scene.{Scene, fresh, in_range}
 use Rattle.dem.specs.Recording.{blocks, Recording, Reading, read_recording, fill_recording, reading_of, reading, Accepted, scene_after, normal_form}
 use Rattle.dem.specs.Recording.{normal_block}
@@ -30,11 +32,11 @@ use Rattle.format.proofs.NormalCallLaws.{none_written, written_first, none-behin
 use Rattle.dem.proofs.NormalCallLaws.{NormalWritten, NormalUnwritten, normal-written, normal_unwritten, normal-track_within, normal_no-track}
 use Rattle.dem_scene.specs.declared.Scene.{Scene as Held}
 use Rattle.dem_scene.specs.Views.{scene_of}
-use Rattle.dem_messages.specs.Replies.{count_of, written_of}
+use Rattle.dem_messages.specs.declared.Normal.{Normal}
+use Rattle.dem_messages.specs.declared.Reply.{Reply as Answered}
+use Rattle.dem_messages.specs.Replies.{count_of, written_of, normalised_of}
 use Rattle.cobbrundle.specs.Calls.{Outcome, to_end, to_refusal, WritesBlock, NormalCalls, no_form, form_refused, next_form}
 use Rattle.cobbrundle.specs.Calls.{NormalRecordingCalls, line_refused, behind_line}
-use Rattle.dem_messages.specs.declared.WriteReply.{WriteReply}
-use Rattle.dem_messages.specs.declared.NormalAnswer.TheVariants as N
 
 abbrev count_of_lem : Written Scene ℕ → Answer ℕ
 count_of_lem w = w.answer
@@ -63,14 +65,14 @@ pub record WrittenNormal (r room : List ℕ) (to : Scene) (out : List ℕ) (n : 
   pub scene : to ≡ scene_after reads
 
 -- Of any answer that meets the contract. `wrote`: what it wrote; the others: when it writes, and what it answers else.
-pub record NormalRecording (r room : List ℕ) (a : WriteReply) (out : List ℕ) : Type 0 where
+pub record NormalRecording (r room : List ℕ) (a : Answered ℕ) (out : List ℕ) : Type 0 where
   pub wrote : (n : ℕ) → count_of a.answer ≡ result n → WrittenNormal r room (scene_of a.scene) out n
   pub enough : (R : Reading) → reading r ≡ some R → length (normal_form r) ≤ length room → count_of a.answer ≡ result (length (normal_form r))
   pub short : (R : Reading) → reading r ≡ some R → length room < length (normal_form r)
       → written_of a out ≡ written (reply fresh (refusal 12 (length (normal_form r)))) room
   pub refuses : (n : ℕ) (left : List ℕ) → read_recording r ≡ refused n left → written_of a out ≡ written (reply fresh (refusal n (place_in r left))) room
 
-module _ (r room : List ℕ) (h : Bytes r) (a : WriteReply) (out : List ℕ) (contract : written_of a out ≡ whole_normal r room) where
+module _ (r room : List ℕ) (h : Bytes r) (a : Answered ℕ) (out : List ℕ) (contract : written_of a out ≡ whole_normal r room) where
   module _ (R : Reading) (e : reading r ≡ some R) where
     abbrev told : Reply Scene ℕ
     told = reply (scene_after R) (result (length (normal_form r)))
@@ -135,7 +137,7 @@ module _ (r room : List ℕ) (h : Bytes r) (a : WriteReply) (out : List ℕ) (co
       }
 
 -- Of two recordings that were written, the bytes are equal exactly if the readings are.
-pub equal_exactly : (r r₂ room room₂ : List ℕ) → Bytes r → Bytes r₂ → (a a₂ : WriteReply) (out out₂ : List ℕ)
+pub equal_exactly : (r r₂ room room₂ : List ℕ) → Bytes r → Bytes r₂ → (a a₂ : Answered ℕ) (out out₂ : List ℕ)
     → written_of a out ≡ whole_normal r room → written_of a₂ out₂ ≡ whole_normal r₂ room₂ → (n n₂ : ℕ) → count_of a.answer ≡ result n
     → count_of a₂.answer ≡ result n₂ → (take n out ≡ take n₂ out₂) ↔ (reading r ≡ reading r₂)
 equal_exactly r r₂ room room₂ h h₂ a a₂ out out₂ p p₂ n n₂ c c₂ =
@@ -155,7 +157,7 @@ equal_exactly r r₂ room room₂ h h₂ a a₂ out out₂ p p₂ n n₂ c c₂ 
 pub record ByBlocks (r room : List ℕ) (y : Held) (n : ℕ) (out : List ℕ) (o : Outcome) : Type 0 where
   pub exactly : (o ≡ to_end) ↔ (Accepted r × (length (normal_form r) ≤ length room))
   pub wrote : o ≡ to_end → NormalWritten r room (scene_of y) n out
-  pub whole : o ≡ to_end → (a : WriteReply) (all : List ℕ) → written_of a all ≡ whole_normal r room
+  pub whole : o ≡ to_end → (a : Answered ℕ) (all : List ℕ) → written_of a all ≡ whole_normal r room
       → (count_of a.answer ≡ result n) × (all ≡ out) × (scene_of a.scene ≡ scene_of y)
 
 module _ (r : List ℕ) (h : Bytes r) where
@@ -164,9 +166,9 @@ module _ (r : List ℕ) (h : Bytes r) where
   FormsTold to_end x at room y n out = AllWritten blocks normal_block (scene_of x) (drop at r) room (scene_of y) n out
   FormsTold to_refusal x at room y n out = NoneWritten blocks normal_block (scene_of x) (drop at r) room
 
-  module _ (x y : Held) (at size next : ℕ) (room mid : List ℕ) (e : WritesBlock x r at room (N.Written size next) y mid) where
+  module _ (x y : Held) (at : ℕ) (f : Normal) (room mid : List ℕ) (e : WritesBlock x r at room (Ok (Some f)) y mid) where
     abbrev form : Normalised
-    form = record { length = size; next = next }
+    form = normalised_of f
 
     pub wrote_one : WroteItem blocks normal_block GoodBlock (scene_of x) r at room (scene_of y) form mid
     wrote_one = normal-found-told blocks normal_block (scene_of x) r at room (scene_of y) mid GoodBlock block_lawful h form (sym e)
@@ -174,8 +176,8 @@ module _ (r : List ℕ) (h : Bytes r) where
     one_range : in_range (scene_of x) ≡ true → in_range (scene_of y) ≡ true
     one_range i = ap in_range wrote_one.found.after ∙ block_range (scene_of x) wrote_one.item wrote_one.found.good i
 
-    form-led : (o : Outcome) (z : Held) (n : ℕ) (out : List ℕ) → FormsTold o y next (drop size mid) z n out
-        → FormsTold o x at room z (size + n) (take size mid ++ out)
+    form-led : (o : Outcome) (z : Held) (n : ℕ) (out : List ℕ) → FormsTold o y f.next (drop f.length mid) z n out
+        → FormsTold o x at room z (f.length + n) (take f.length mid ++ out)
     form-led to_end z n out k = written_first blocks normal_block (scene_of x) r at room GoodBlock block_lawful h (scene_of y) form mid wrote_one (scene_of z) n out k
     form-led to_refusal z n out k = none-behind blocks normal_block (scene_of x) r at room GoodBlock block_lawful h (scene_of y) form mid wrote_one k
 
@@ -185,12 +187,11 @@ module _ (r : List ℕ) (h : Bytes r) where
       let k = normal_end-told blocks normal_block (scene_of x) r at room (scene_of y) out (sym e) in
       subst₂ (λ (u : Scene) (z : List ℕ). AllWritten blocks normal_block (scene_of x) (drop at r) room u 0 z) (sym k.1) (sym k.2)
       (written_end blocks normal_block (scene_of x) r at room k.0)
-  forms-told (form_refused {x} {y} {at} {n} {p} {room} {out} e) i l =
+  forms-told (form_refused {x} {y} {at} {room} {out} q e) i l =
       none_written blocks normal_block (scene_of x) r at room GoodBlock block_lawful h
-      (normal-refusal-told blocks normal_block (scene_of x) r at room (scene_of y) out i l n p (sym e))
-  forms-told (next_form {x} {y} {z} {at} {size} {next} {n} {room} {mid} {out} {o} e w) i l =
-      form-led x y at size next room mid e o z n out
-      (forms-told w (one_range x y at size next room mid e i) (wrote_one x y at size next room mid e).found.within)
+      (normal-refusal-told blocks normal_block (scene_of x) r at room (scene_of y) out i l (number_of q.refusal) q.place (sym e))
+  forms-told (next_form {x} {y} {z} {at} {n} {f} {room} {mid} {out} {o} e w) i l =
+      form-led x y at f room mid e o z n out (forms-told w (one_range x y at f room mid e i) (wrote_one x y at f room mid e).found.within)
 
   module _ (room : List ℕ) where
     came_through : (y : Held) (n : ℕ) (out : List ℕ) → NormalWritten r room (scene_of y) n out → ByBlocks r room y n out to_end
@@ -215,18 +216,17 @@ module _ (r : List ℕ) (h : Bytes r) where
         }
 
     pub by_blocks : {y : Held} {n : ℕ} {out : List ℕ} {o : Outcome} → NormalRecordingCalls r room y n out o → ByBlocks r room y n out o
-    by_blocks (line_refused {n} {p} {x} {out} e f) = came-short x 0 out (normal_no-track r room h n p out (sym e))
-    by_blocks (behind_line {size} {next} {n} {x} {y} {mid} {out} {o} e f w) =
-        go o (forms-told w (ap in_range f ∙ fresh_range) (normal-track_within r room h line mid (sym e)))
+    by_blocks (line_refused {x} {out} q e f) = came-short x 0 out (normal_no-track r room h (number_of q.refusal) q.place out (sym e))
+    by_blocks (behind_line {line} {n} {x} {y} {mid} {out} {o} e f w) =
+        go o (forms-told w (ap in_range f ∙ fresh_range) (normal-track_within r room h (normalised_of line) mid (sym e)))
       where
-        line : Normalised
-        line = record { length = size; next = next }
-
-        go : (o : Outcome) → FormsTold o x next (drop size mid) y n out → ByBlocks r room y (size + n) (take size mid ++ out) o
+        go : (o : Outcome) → FormsTold o x line.next (drop line.length mid) y n out
+            → ByBlocks r room y (line.length + n) (take line.length mid ++ out) o
         go to_end k =
-            came_through y (size + n) (take size mid ++ out)
-            (normal-written r room h line mid (sym e) (scene_of y) n out
-            (subst (λ (v : Scene). AllWritten blocks normal_block v (drop next r) (drop size mid) (scene_of y) n out) f k))
+            came_through y (line.length + n) (take line.length mid ++ out)
+            (normal-written r room h (normalised_of line) mid (sym e) (scene_of y) n out
+            (subst (λ (v : Scene). AllWritten blocks normal_block v (drop line.next r) (drop line.length mid) (scene_of y) n out) f k))
         go to_refusal k =
-            came-short y (size + n) (take size mid ++ out)
-            (normal_unwritten r room h line mid (sym e) (subst (λ (v : Scene). NoneWritten blocks normal_block v (drop next r) (drop size mid)) f k))
+            came-short y (line.length + n) (take line.length mid ++ out)
+            (normal_unwritten r room h (normalised_of line) mid (sym e)
+            (subst (λ (v : Scene). NoneWritten blocks normal_block v (drop line.next r) (drop line.length mid)) f k))

@@ -9,14 +9,16 @@ use mathlib.Core.Bool.{true}
 use mathlib.Core.Option.{none, some}
 use Prim.Native.Nat.{ℕ, ◌+◌, ◌-◌, ◌<◌, ◌≤◌, zero-le}
 use native.Mathlib.Omega.{arith}
-use lib.IntN.{ℤ}
 use lib.ListN.{length, take, drop, length-map}
 use mir.Syntax.{w32}
 use mir.Val.{Val, of_z}
 use denote.Laws.{Is}
 use denote.Struct.Declared.{row}
+use Rattle.std.specs.Prelude.{Option, Some, Result, Ok}
 use Rattle.dem.specs.Limits.{head_size}
 use Rattle.format.specs.Bytes.{Bytes, found, refused, map_result}
+use Rattle.format.specs.declared.refusal.Refused.{Refused}
+use Rattle.format.specs.Refusals.{number_of}
 use Rattle.dem.specs.Scene.{Scene as Described, fresh, count_marks, in_range}
 use Rattle.dem.specs.Message.{Message as Values, fill, apply}
 use Rattle.format.specs.Codec.{after, read_all, fill_all, apply_all}
@@ -40,18 +42,15 @@ use Rattle.dem.proofs.CallLaws.{reading-found, reading-refused, reading_no-track
 use Rattle.dem_scene.specs.declared.Scene.{Scene}
 use Rattle.dem_scene.specs.Views.{baseline_numbers, record_numbers, scene_with, scene_of}
 use Rattle.dem_scene.specs.contracts.Scene as SceneType
+use Rattle.dem_messages.specs.declared.Found.{Found}
+use Rattle.dem_messages.specs.declared.Reply.{Reply}
 use Rattle.dem_messages.specs.Replies.{count_of, written_of}
+use Rattle.dem_recordings.specs.declared.Track.{Track}
 use Rattle.dem_recordings.specs.Replies.{outline_of}
 use Rattle.cobbrundle.specs.Calls.{Outcome, to_end, to_refusal, ReadsMessage, MessageCall, MessageCalls, no_message, message_refused, next_message}
 use Rattle.cobbrundle.specs.Calls.{ReadsBlock, BlockCall, bytes_of, BlockCalls, no_block, block_refused, within_refused, next_block}
 use Rattle.cobbrundle.specs.Calls.{RecordingCalls, track_refused, behind_track, message_sent, message_out, block_sent, block_out, recording_out}
 use Rattle.cobbrundle.specs.Calls.{Every, MessagesTile, BlocksTile}
-use Rattle.dem_messages.specs.declared.MessageAnswer.TheVariants as M
-use Rattle.dem_messages.specs.declared.MessageReply.{MessageReply}
-use Rattle.dem_recordings.specs.declared.BlockAnswer.TheVariants as B
-use Rattle.dem_recordings.specs.declared.TrackAnswer.{TrackAnswer}
-use Rattle.dem_recordings.specs.declared.TrackAnswer.TheVariants as T
-use Rattle.dem_messages.specs.declared.WriteReply.{WriteReply}
 use Rattle.dem_messages.proofs.Messages.{found-reply-at}
 use Rattle.dem_messages.proofs.Theorems.{written_back}
 
@@ -62,15 +61,15 @@ use Rattle.dem_messages.proofs.Theorems.{written_back}
 -- present marks; written back in the same scene, in room that is enough, it is its bytes, and the scene after it the same.
 pub record MessageFound (block : List ℕ) (c : MessageCall) : Type 0 where
   pub good : GoodMessage (scene_of c.scene) (message_sent block c)
-  pub bytes : take (c.next - c.place) (drop c.place block) ≡ write_message (scene_of c.scene) (message_sent block c)
+  pub bytes : take (c.found.next - c.place) (drop c.place block) ≡ write_message (scene_of c.scene) (message_sent block c)
   pub filled : message_out block c ≡ fill (scene_of c.scene) (message_sent block c)
   pub scene : scene_of c.after ≡ apply (scene_of c.scene) (message_out block c)
   pub does : AfterMessage (scene_of c.scene) (message_sent block c) (scene_of c.after)
   pub counted : c.after.present_count ≡ count_marks c.after.present
-  pub back : (w : WriteReply) (room out : List ℕ) → written_of w out ≡ write_sent (scene_of c.scene) (message_sent block c) room
-      → c.next - c.place ≤ length room
-      → (count_of w.answer ≡ result (c.next - c.place))
-      × (out ≡ take (c.next - c.place) (drop c.place block) ++ drop (c.next - c.place) room)
+  pub back : (w : Reply ℕ) (room out : List ℕ) → written_of w out ≡ write_sent (scene_of c.scene) (message_sent block c) room
+      → c.found.next - c.place ≤ length room
+      → (count_of w.answer ≡ result (c.found.next - c.place))
+      × (out ≡ take (c.found.next - c.place) (drop c.place block) ++ drop (c.found.next - c.place) room)
       × (scene_of w.scene ≡ scene_of c.after)
 
 -- Of a call that found a block: its messages are behind its head; the calls for them found as many as were told, which tile them, and lead to
@@ -86,14 +85,14 @@ pub record BlockFound (s : List ℕ) (b : BlockCall) : Type 0 where
   pub counted : b.after.present_count ≡ count_marks b.after.present
 
 -- Of the calls for a recording.
-pub record RecordingWalked (s : List ℕ) (a : TrackAnswer) (bs : List BlockCall) (y : Scene) (o : Outcome) : Type 0 where
+pub record RecordingWalked (s : List ℕ) (a : Result Track Refused) (bs : List BlockCall) (y : Scene) (o : Outcome) : Type 0 where
   -- What they hand out is the reading; there is none exactly if a call refuses.
   pub reads : reading s ≡ recording_out s a bs o
   -- They come to the end exactly if the bytes are well formed, and what they hand out as sent is the recording that has these bytes.
   pub exactly : (o ≡ to_end) ↔ WellFormed s
   pub sent : (w : WellFormed s) → w.recording.blocks ≡ map (block_sent s) bs
   -- The blocks tile what is behind the track line, and lead to the scene after the recording.
-  pub tiles : (n : ℤ) (next : ℕ) → a ≡ T.Found n next → o ≡ to_end → BlocksTile next bs (length s)
+  pub tiles : (t : Track) → a ≡ Ok t → o ≡ to_end → BlocksTile t.next bs (length s)
   pub scene : (R : Reading) → reading s ≡ some R → scene_of y ≡ scene_after R
   -- Each call, also before one that refuses.
   pub blocks : Every (BlockFound s) bs
@@ -121,7 +120,7 @@ held_counted x r = (range→ (scene_of x) r).count
 -- ---- a message
 
 module _ (block : List ℕ) (bytes : Bytes block) (c : MessageCall)
-    (read : ReadsMessage c.scene block c.place (M.Found c.message c.filled c.next) c.after) where
+    (read : ReadsMessage c.scene block c.place (Ok (Some c.found)) c.after) where
   abbrev t : Described
   t = scene_of c.scene
 
@@ -129,16 +128,16 @@ module _ (block : List ℕ) (bytes : Bytes block) (c : MessageCall)
   u = scene_of c.after
 
   abbrev item : Item Values Values
-  item = record { sent = message_sent block c; filled = message_out block c; next = c.next }
+  item = record { sent = message_sent block c; filled = message_out block c; next = c.found.next }
 
-  abbrev answered : MessageReply
-  answered = record { answer = M.Found c.message c.filled c.next; scene = c.after }
+  abbrev answered : Reply (Option Found)
+  answered = record { answer = Ok (Some c.found); scene = c.after }
 
   found_item : FoundItem messages GoodMessage t block c.place u item
-  found_item = found-reply-at t block c.place bytes answered c.message c.filled c.next read refl
+  found_item = found-reply-at t block c.place bytes answered c.found read refl
 
   -- A call that finds a message moves on, and not past the end: such calls come to an end.
-  pub message_moves : (c.place < c.next) × (c.next ≤ length block)
+  pub message_moves : (c.place < c.found.next) × (c.found.next ≤ length block)
   message_moves = (found_item.on, found_item.within)
 
   -- In any scene that has all its entities and stats, as each has that code holds (`held_shaped`).
@@ -154,7 +153,7 @@ module _ (block : List ℕ) (bytes : Bytes block) (c : MessageCall)
             (message_does t item.sent found_item.good found_item.range h);
         counted = held_counted c.after
             (ap in_range (found_item.after ∙ ap (apply t) found_item.filled) ∙ message_range t item.sent found_item.good found_item.range);
-        back = written_back c.scene block c.place bytes answered c.message c.filled c.next read refl;
+        back = written_back c.scene block c.place bytes answered c.found read refl;
       }
 
 -- ---- the messages of a block
@@ -170,20 +169,20 @@ MessagesTold to_end block x at cs y = MessagesDone block x at cs y
 MessagesTold to_refusal block x at cs y = (n : ℕ) × (left : List ℕ) × (read_all messages (scene_of x) (drop at block) ≡ refused n left)
 
 module _ (block : List ℕ) (bytes : Bytes block) where
-  module _ (c : MessageCall) (read : ReadsMessage c.scene block c.place (M.Found c.message c.filled c.next) c.after)
+  module _ (c : MessageCall) (read : ReadsMessage c.scene block c.place (Ok (Some c.found)) c.after)
       (cs : List MessageCall) (y : Scene) where
     abbrev i : FoundItem messages GoodMessage (scene_of c.scene) block c.place (scene_of c.after) (item block bytes c read)
     i = found_item block bytes c read
 
     first : read_all messages (scene_of c.scene) (drop c.place block)
-        ≡ map_result (λ vs. message_sent block c ∷ vs) (read_all messages (scene_of c.after) (drop c.next block))
+        ≡ map_result (λ vs. message_sent block c ∷ vs) (read_all messages (scene_of c.after) (drop c.found.next block))
     first = all_found messages (scene_of c.scene) block c.place GoodMessage message_lawful bytes (scene_of c.after) (item block bytes c read) i
 
     onward : after messages (scene_of c.scene) (message_sent block c) ≡ scene_of c.after
     onward = ap (apply (scene_of c.scene)) (sym i.filled) ∙ sym i.after
 
     -- A message in front of the others.
-    led : (o : Outcome) → MessagesTold o block c.after c.next cs y → MessagesTold o block c.scene c.place (c ∷ cs) y
+    led : (o : Outcome) → MessagesTold o block c.after c.found.next cs y → MessagesTold o block c.scene c.place (c ∷ cs) y
     unfolding fill_all apply_all
     led to_end d =
         record {
@@ -202,8 +201,9 @@ module _ (block : List ℕ) (bytes : Bytes block) where
   messages-told (no_message {x} {y} {at} e) r h l =
       let k = end-told messages (scene_of x) block at (scene_of y) (sym e) in
       (record { read = all_end messages (scene_of x) block at k.0; out = refl; scene = k.1; tiles = k.0 }, tt)
-  messages-told (message_refused {x} {y} {at} {n} {p} e) r h l =
-      let k = refusal-told messages (scene_of x) block at (scene_of y) r l n p (sym e) in
+  messages-told (message_refused {x} {y} {at} q e) r h l =
+      let n : ℕ = number_of q.refusal in
+      let k = refusal-told messages (scene_of x) block at (scene_of y) r l n q.place (sym e) in
       ((n, k.1, all-refused messages (scene_of x) block at GoodMessage message_lawful bytes k.0 n k.1 k.2), tt)
   messages-told (next_message {c} {cs} {y} {o} e w) r h l =
       let i = found_item block bytes c e in
@@ -216,7 +216,7 @@ module _ (block : List ℕ) (bytes : Bytes block) where
 
 -- ---- a block
 
-module _ (s : List ℕ) (bytes : Bytes s) (b : BlockCall) (read : ReadsBlock b.scene s b.place (B.Found b.outline) b.after) where
+module _ (s : List ℕ) (bytes : Bytes s) (b : BlockCall) (read : ReadsBlock b.scene s b.place (Ok (Some b.outline)) b.after) where
   abbrev before : Described
   before = scene_of b.scene
 
@@ -304,7 +304,7 @@ BlocksTold to_end s x at bs y = BlocksDone s x at bs y
 BlocksTold to_refusal s x at bs y = (n : ℕ) × (left : List ℕ) × (read_all blocks (scene_of x) (drop at s) ≡ refused n left)
 
 module _ (s : List ℕ) (bytes : Bytes s) where
-  module _ (b : BlockCall) (read : ReadsBlock b.scene s b.place (B.Found b.outline) b.after)
+  module _ (b : BlockCall) (read : ReadsBlock b.scene s b.place (Ok (Some b.outline)) b.after)
       (d : MessagesDone (bytes_of s b.outline) b.scene 0 b.messages b.left) (bs : List BlockCall) (y : Scene) where
     first_block : read_all blocks (scene_of b.scene) (drop b.place s)
         ≡ map_result (λ vs. block_sent s b ∷ vs) (read_all blocks (scene_of b.after) (drop b.outline.next s))
@@ -335,8 +335,9 @@ module _ (s : List ℕ) (bytes : Bytes s) where
   blocks-told (no_block {x} {y} {at} e) r h l =
       let k = end-told blocks (scene_of x) s at (scene_of y) (outline_end (scene_of x) s at (scene_of y) (sym e)) in
       (record { read = all_end blocks (scene_of x) s at k.0; out = refl; scene = k.1; tiles = k.0 }, tt)
-  blocks-told (block_refused {x} {y} {at} {n} {p} e) r h l =
-      let k = refusal-told blocks (scene_of x) s at (scene_of y) r l n p (outline-refused (scene_of x) s at (scene_of y) n p (sym e)) in
+  blocks-told (block_refused {x} {y} {at} q e) r h l =
+      let n : ℕ = number_of q.refusal in
+      let k = refusal-told blocks (scene_of x) s at (scene_of y) r l n q.place (outline-refused (scene_of x) s at (scene_of y) n q.place (sym e)) in
       ((n, k.1, all-refused blocks (scene_of x) s at GoodBlock block_lawful bytes k.0 n k.1 k.2), tt)
   blocks-told (within_refused {b} e m) r h l =
       let k = messages-told (bytes_of s b.outline) (inner-bytes s bytes b e) m r h zero-le in
@@ -360,52 +361,54 @@ module _ (s : List ℕ) (bytes : Bytes s) where
   -- ---- DEMAND 2
 
   -- Of any bytes, and any answers that meet their promises.
-  pub recording_walked : {a : TrackAnswer} {bs : List BlockCall} {y : Scene} {o : Outcome} → RecordingCalls s a bs y o → RecordingWalked s a bs y o
-  recording_walked (track_refused {n} {p} {x} e f) =
-      let k = track-refusal-told s bytes n p (sym e) in
+  pub recording_walked : {a : Result Track Refused} {bs : List BlockCall} {y : Scene} {o : Outcome} → RecordingCalls s a bs y o
+      → RecordingWalked s a bs y o
+  recording_walked (track_refused {r} {x} e f) =
+      let n : ℕ = number_of r.refusal in
+      let k = track-refusal-told s bytes n r.place (sym e) in
       let refuses : reading s ≡ none = reading_no-track s n k.0 k.1 in
       record {
         reads = refuses;
         exactly = refused-ends refuses;
         sent = λ w. clash (cc ((refused-ends refuses).1 w));
-        tiles = λ n next is q. clash (cc);
+        tiles = λ t is q. clash (cc);
         scene = λ R q. let z = sym refuses ∙ q in clash (cc);
         blocks = tt;
       }
-  recording_walked (behind_track {n} {next} {x} {y} {bs} {o} e f w) =
-      let k = track-told s bytes n next (sym e) in
+  recording_walked (behind_track {t} {x} {y} {bs} {o} e f w) =
+      let k = track-told s bytes t.number t.next (sym e) in
       let b = blocks-told w (ap in_range f ∙ fresh_range) (subst Shaped (sym f) fresh_shaped) k.3 in
-      found_by n next x y bs o k.0 k.1 k.2 f b.0 b.1
+      found_by t x y bs o k.0 k.1 k.2 f b.0 b.1
     where
-      found_by : (n : ℤ) (next : ℕ) (x y : Scene) (bs : List BlockCall) (o : Outcome) (line : TrackLine) → read_track s ≡ found line (drop next s)
-          → track_number line ≡ n → scene_of x ≡ fresh → BlocksTold o s x next bs y → Every (BlockFound s) bs
-          → RecordingWalked s (T.Found n next) bs y o
-      found_by n next x y bs to_end line e m f d every =
-          let R : Reading = record { track = n; blocks = map (block_out s) bs } in
-          let all : read_all blocks fresh (drop next s) ≡ found (map (block_sent s) bs) [] =
-          ap (λ (v : Described). read_all blocks v (drop next s)) (sym f) ∙ d.read in
+      found_by : (t : Track) (x y : Scene) (bs : List BlockCall) (o : Outcome) (line : TrackLine) → read_track s ≡ found line (drop t.next s)
+          → track_number line ≡ t.number → scene_of x ≡ fresh → BlocksTold o s x t.next bs y → Every (BlockFound s) bs
+          → RecordingWalked s (Ok t) bs y o
+      found_by t x y bs to_end line e m f d every =
+          let R : Reading = record { track = t.number; blocks = map (block_out s) bs } in
+          let all : read_all blocks fresh (drop t.next s) ≡ found (map (block_sent s) bs) [] =
+          ap (λ (v : Described). read_all blocks v (drop t.next s)) (sym f) ∙ d.read in
           let reads : reading s ≡ some R =
-          reading-found s line (drop next s) e (map (block_sent s) bs) all
+          reading-found s line (drop t.next s) e (map (block_sent s) bs) all
           ∙ (λ j. some (record { track = m j; blocks = (ap (λ (v : Described). fill_all blocks v (map (block_sent s) bs)) (sym f) ∙ d.out) j })) in
           record {
             reads = reads;
             exactly = accepted-ends R reads;
-            sent = λ w. let v = (accepted_exactly s bytes).sent w in let u = recording-blocks s line (drop next s) e _ all in
+            sent = λ w. let v = (accepted_exactly s bytes).sent w in let u = recording-blocks s line (drop t.next s) e _ all in
                 let z : w.recording ≡ recording_of line (map (block_sent s) bs) = cc in
                 ap (λ (r : Recording). r.blocks) z;
-            tiles = λ n' next' is q. let z : next ≡ next' = cc in subst (λ (j : ℕ). BlocksTile j bs (length s)) z d.tiles;
+            tiles = λ t' is q. let z : t ≡ t' = cc in subst (λ (j : Track). BlocksTile j.next bs (length s)) z d.tiles;
             scene = λ R' q. let z : some R ≡ some R' = sym reads ∙ q in let z' : R ≡ R' = cc in
                 d.scene ∙ ap₂ (λ (v : Described) (fs : List Block). apply_all blocks v fs) f d.out ∙ ap scene_after z';
             blocks = every;
           }
-      found_by n next x y bs to_refusal line e m f d every =
+      found_by t x y bs to_refusal line e m f d every =
           let refuses : reading s ≡ none =
-          reading-refused s line (drop next s) e d.0 d.1 (ap (λ (v : Described). read_all blocks v (drop next s)) (sym f) ∙ d.2) in
+          reading-refused s line (drop t.next s) e d.0 d.1 (ap (λ (v : Described). read_all blocks v (drop t.next s)) (sym f) ∙ d.2) in
           record {
             reads = refuses;
             exactly = refused-ends refuses;
             sent = λ w. clash (cc ((refused-ends refuses).1 w));
-            tiles = λ n' next' is q. clash (cc);
+            tiles = λ t' is q. clash (cc);
             scene = λ R q. let z = sym refuses ∙ q in clash (cc);
             blocks = every;
           }

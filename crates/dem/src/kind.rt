@@ -1,4 +1,5 @@
-// The message numbers.
+// The message numbers. Constants and no enum, which would be no plainer: they are matched on a message's first byte, and what was read is a
+// variant of `dem_types::Message`.
 pub const NOP: u8 = 1;
 
 pub const DISCONNECT: u8 = 2;

@@ -37,13 +37,9 @@ pub const LONGEST_TRACK_LINE: usize = 5;
 
 pub const PROTOCOL: i32 = 15;
 
-pub const PROTOCOL_BITS: u32 = PROTOCOL as u32;
-
 // What a sound and clientdata mean where they do not send it.
 pub const DEFAULT_VOLUME: u8 = 255;
 
 pub const DEFAULT_ATTENUATION: u8 = 64;
 
 pub const DEFAULT_VIEW_HEIGHT: i8 = 22;
-
-pub const DEFAULT_VIEW_HEIGHT_BITS: u8 = DEFAULT_VIEW_HEIGHT as u8;

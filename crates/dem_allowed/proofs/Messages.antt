@@ -14,6 +14,7 @@ use denote.Laws.{Is}
 use denote.Struct.Declared.{row as row_of}
 use denote.Enum.Declared.{row as enum_of}
 use denote.Enum.Laws.{owed}
+use Rattle.std.proofs.lemmas.Bool.Decides.{nat_tests}
 use Rattle.dem.specs.Kind
 use Rattle.format.specs.Limits.{string_limit}
 use Rattle.dem.specs.Limits.{entity_count, player_count, stat_count, style_count, static_limit, name_limit, temporary_type_count, protocol}
@@ -56,9 +57,8 @@ use Rattle.dem_types.specs.contracts.Update as UpdateType
 use Rattle.strings.specs.Names.{names_in}
 use Rattle.dem_parts.specs.Kinds.{context_of}
 use Rattle.dem_parts.specs.declared.Context.{Context}
-use Rattle.wire.proofs.Rules.{not_from}
 use Rattle.format.proofs.EachLaws.{in-run}
-use Rattle.wire.specs.Cursors.{placed}
+use Rattle.wire.specs.Reads.{placed}
 use Rattle.dem_allowed.specs.Tests.{slot_test, motion_test, arms_test, look_test, pose_test, lists_test, source_test, sound_test, time_test}
 use Rattle.dem_allowed.specs.Tests.{serverinfo_test, client_test, temporary_test, sent_test, update_test, message_test}
 use Rattle.dem_allowed.proofs.Steps.{met, field_step, ruled_step, sent_step, entity_step, split_step, string_step, Wide}
@@ -107,6 +107,9 @@ unfolding allows
 source-field c e = split_step true done c e.0 [] ∙ and-true (source_test c e)
 
 -- ---- the kinds with a layout of their own
+
+not_from : (m v : ℕ) → ltb v m ≡ not (leb m v)
+not_from m v = grind (arith, nat_tests)
 
 -- Bits 2 to 7 of a byte are clear below 4.
 small_mask : (m : ℕ) → m < 256 → not (any_set (2 ∷ 3 ∷ 4 ∷ 5 ∷ 6 ∷ 7 ∷ []) (bit m)) ≡ ltb m 4

@@ -29,7 +29,7 @@ use Rattle.dem_types.specs.declared.Message.{Message}
 use Rattle.dem_types.specs.declared.Message.TheVariants as M
 use Rattle.dem_parts.specs.Kinds.{context_of}
 use Rattle.dem_parts.specs.declared.Context.{Context}
-use Rattle.wire.specs.Cursors.{placed}
+use Rattle.wire.specs.Reads.{placed}
 
 -- ---- fields behind a mask: each that it does not bring is 0
 

@@ -5,10 +5,11 @@ use mathlib.Core.Bool.{Bool, true, false}
 use mathlib.Core.List.{List, [], ◌∷◌, ◌++◌, map}
 use Prim.Native.Nat.{ℕ, zero, suc, ◌+◌, ◌≤◌, ◌<◌}
 use native.Mathlib.Omega.{arith}
+use mir.Val.{bool_byte}
 use borrow.Author.Tests.{lt-ltb, le-ltb, ltb-true, ltb-false, eqb-true, eqb-false}
 use lib.Dec.{ltb, eqb}
 use lib.ListN.{length, take, get_or, set, replicate, length-map, length-set, get_or-map}
-use lib.Seq.{take-suc, take-suc-set, take_all, get_or-set_same, get_or-set_other, set_out}
+use lib.Seq.{take-suc, take-suc-set, get_or-set_same, get_or-set_other, set_out}
 use Rattle.dem.specs.Limits.{entity_count}
 use Rattle.format.specs.Bytes.{bit_of}
 use Rattle.format.proofs.ListLaws.{map_set}
@@ -29,8 +30,10 @@ module _ {A B : Type 0} (f : A → B) (xs : List A) where
       ∙ sym (take-suc (map f xs) i (f d) (omega (arith, length-map xs f))) in
       (omega arith, length-set ys i _ ∙ m.1, subst (λ (k : ℕ). take k new ≡ take k (map f xs)) more taken)
 
-  pub made_all : (ys : List B) (i : ℕ) → Made ys i → length xs ≤ i → ys ≡ map f xs
-  made_all ys i m l = sym (take_all i ys (omega (arith, m.1))) ∙ m.2 ∙ take_all i (map f xs) (omega (arith, length-map xs f))
+-- A mark as code turns it into a number.
+pub bit_byte : (b : Bool) → bool_byte b ≡ bit_of b
+bit_byte true = refl
+bit_byte false = refl
 
 -- ---- marks that are no further than a place
 

@@ -1,7 +1,7 @@
 -- Places of a block where a message is to be read: what is told and written of the run from there on is what was told of it from the start,
 -- and a message that is read is one step on.
 use mathlib.Core.Path.{◌≡◌, refl, sym, ap, ap₂, ◌∙◌, subst}
-use mathlib.Core.Bool.{Bool, true, false, not, ◌&&◌}
+use mathlib.Core.Bool.{Bool, true, false, ◌&&◌}
 use mathlib.Core.Logic.{◌≢◌}
 use mathlib.Core.List.{List, [], ◌∷◌, ◌++◌}
 use Prim.Native.Nat.{ℕ, suc, ◌+◌, ◌-◌, ◌≤◌, ◌<◌}
@@ -11,23 +11,22 @@ use mir.Val.{Fits}
 use lib.ListN.{length, take, drop, get_or, set, replicate}
 use lib.Seq.{length-take-le, get_or-take}
 use lib.Dec.{ltb}
-use borrow.Author.Tests.{ltb-true, ltb-false}
+use borrow.Author.Tests.{ltb-true}
 use Rattle.format.specs.Bytes.{Bytes, Result, refused, bit}
 use Rattle.dem.specs.Kind
-use Rattle.format.specs.Layout.{Value, number, print}
+use Rattle.format.specs.Layout.{Value, number, parse, print}
 use Rattle.dem.specs.Scene.{Scene, Context, context_of, in_range}
 use Rattle.dem.specs.Limits.{block_limit, entity_count}
 use Rattle.dem.specs.Message.{Message, is_message, layout_in, update_slots, send_update}
-use Rattle.wire.specs.Cursors.{gotten, parse_at}
-use Rattle.wire.specs.declared.Cursor.{Cursor}
-use Rattle.wire.proofs.Sticky.{here}
-use Rattle.dem_parts.specs.Kinds.{kind_at}
+use Rattle.dem_parts.specs.Kinds.{kind_in}
 use Rattle.format.specs.Codec.{read_all}
 use Rattle.dem.specs.Recording.{read_message, messages, read_block}
 use Rattle.format.proofs.LayoutLaws.{and_true}
 use Rattle.format.proofs.ByteLaws.{bytes_of, take-bytes}
+use Rattle.std.specs.Prelude.{Option, None, Ok}
+use Rattle.format.specs.declared.refusal.Refused.{Refused}
 use Rattle.dem_framing.specs.Heads.{head_of, head_in}
-use Rattle.dem_framing.specs.declared.HeadAt.{HeadAt}
+use Rattle.dem_framing.specs.declared.Head.{Head}
 use Rattle.dem_scene.specs.Views.{scene_with, scene_of, baseline_numbers, record_values}
 use Rattle.dem_scene.specs.declared.Baseline.{Baseline}
 use Rattle.dem_scene.specs.declared.Record.{Record}
@@ -67,8 +66,8 @@ Along told on s end messages₀ scene₀ form₀ at₀ messages' scene body at s
 -- What the loop over blocks keeps: of the run from a place of an input, what was told and written and what is still to be told.
 pub record Blocks (d : List ℕ) (from most : ℕ) (given : Given) (on : Bool) (room : ℕ) (first : List ℕ) (base : ℕ) (stores : Bool) (out : List ℕ)
     (baselines : List Baseline) (records : List Record) (marks : List ℕ) (since : ℕ) (rest : Rest) (body : List ℕ)
-    (start blocks messages written refusal : ℕ) : Type 0 where
-  pub good : refusal ≡ 0
+    (start blocks messages written : ℕ) (refused : Option Refused) : Type 0 where
+  pub good : refused ≡ None
   pub inside : start ≤ length d
   pub few : messages ≤ start
   pub below : blocks ≤ most
@@ -103,15 +102,15 @@ pub record AtBlock : Type 0 where
   pub blocks : ℕ
   pub messages : ℕ
   pub written : ℕ
-  pub refusal : ℕ
-  pub kept : Blocks d from most given on room first base stores out baselines records marks since rest body start blocks messages written refusal
+  pub refused : Option Refused
+  pub kept : Blocks d from most given on room first base stores out baselines records marks since rest body start blocks messages written refused
   pub known : (i : ℕ) → Fits w8 (get_or d i 0)
   pub more : (blocks < most) × (start < length d)
 
 module _ {d : List ℕ} {from most : ℕ} {given : Given} {on : Bool} {room : ℕ} {first : List ℕ} {base : ℕ} {stores : Bool} {out : List ℕ}
     {baselines : List Baseline} {records : List Record} {marks : List ℕ} {since : ℕ} {rest : Rest} {body : List ℕ}
-    {start blocks messages written refusal : ℕ}
-    (kept : Blocks d from most given on room first base stores out baselines records marks since rest body start blocks messages written refusal)
+    {start blocks messages written : ℕ} {refused : Option Refused}
+    (kept : Blocks d from most given on room first base stores out baselines records marks since rest body start blocks messages written refused)
     (known : (i : ℕ) → Fits w8 (get_or d i 0)) (test : (ltb blocks most && ltb start (length d)) ≡ true) where
   abbrev pub at_block : AtBlock
   at_block =
@@ -136,7 +135,7 @@ module _ {d : List ℕ} {from most : ℕ} {given : Given} {on : Bool} {room : �
         blocks = blocks;
         messages = messages;
         written = written;
-        refusal = refusal;
+        refused = refused;
         kept = kept;
         known = known;
         more =
@@ -179,15 +178,14 @@ stop-block c k q =
 -- A block whose head was read.
 pub record Opened : Type 0 where
   pub block : AtBlock
-  pub head : HeadAt
+  pub head : Head
   pub going : block.rest.ended ≡ false
-  pub read : head_of block.d block.start head ≡ head_in (drop block.start block.d)
-  pub good : head.refusal ≡ 0
+  pub read : head_of block.d block.start (Ok head) ≡ head_in (drop block.start block.d)
   pub within : block.start + 16 + head.size ≤ length block.d
 
-abbrev pub open_block : (b : AtBlock) (h : HeadAt) → b.rest.ended ≡ false → head_of b.d b.start h ≡ head_in (drop b.start b.d) → h.refusal ≡ 0
-    → (h.refusal ≡ 0 → b.start + 16 + h.size ≤ length b.d) → Opened
-open_block b h going read good within = record { block = b; head = h; going = going; read = read; good = good; within = within good }
+abbrev pub open_block : (b : AtBlock) (h : Head) → b.rest.ended ≡ false → head_of b.d b.start (Ok h) ≡ head_in (drop b.start b.d)
+    → b.start + 16 + h.size ≤ length b.d → Opened
+open_block b h going read within = record { block = b; head = h; going = going; read = read; within = within }
 
 abbrev pub end : Opened → ℕ
 end o = o.block.start + 16 + o.head.size
@@ -218,7 +216,7 @@ opened o =
     let b = o.block in
     told b
     ∙ run_opened (scene_of b.given) b.d b.on b.stores b.room b.base b.blocks b.messages b.written b.out (before b) b.start _ b.more.1
-    (bytes b) (omega (arith, o.within)) o.head.size _ o.going (head-found b.d b.start o.head o.read o.good)
+    (bytes b) (omega (arith, o.within)) o.head.size _ o.going (head-found b.d b.start o.head o.read)
 
 -- The messages so far were read and written, from the block's first on.
 abbrev pub Reached : Opened → ℕ → Scene → List ℕ → ℕ → ℕ → ℕ → List ℕ → ℕ → Type 0
@@ -271,10 +269,6 @@ present p = marked p.since p.marks
 abbrev pub scene : {o : Opened} → Place o → Scene
 scene p = held p.baselines p.records (present p) p.rest
 
--- What a reader of messages answered there.
-abbrev pub Parsed : {o : Opened} → Place o → List Value → Cursor → Type 0
-Parsed {o} p vs k = gotten (body o) vs k ≡ parse_at (body o) (here p.at) (layout_in (scene p))
-
 -- A message was read, and its normal form is written behind those before it.
 pub record Step {o : Opened} (p : Place o) (t : Scene) (to : ℕ) (filled : List ℕ) (size kept : ℕ) : Type 0 where
   pub form : List ℕ
@@ -282,15 +276,15 @@ pub record Step {o : Opened} (p : Place o) (t : Scene) (to : ℕ) (filled : List
   pub grown : Grown o.block.on (body o) p.filled filled p.size p.kept p.at size kept to form
 
 module _ {o : Opened} (p : Place o) where
-  module _ (vs : List Value) (k : Cursor) (q : Parsed p vs k) where
-    pub refuse-parsed : (k.refusal ≡ 0 → ⊥) → (n : ℕ) → n ≡ k.refusal → (r : WrittenAt) → Refuses o n p.at r → Answered o r
-    refuse-parsed z n same =
-        refuse-message o p.count (scene p) p.filled p.at p.size p.kept p.marks p.since p.reached p.inside n
-        (parsed-refused (body o) p.at p.inside p.baselines p.records (present p) p.rest p.going vs k q z ∙ ap (λ (i : ℕ). refused i (drop p.at (body o))) (sym same))
+  pub refuse-parsed : (n : ℕ) (left : List ℕ) → refused n left ≡ parse (layout_in (scene p)) (drop p.at (body o)) → (r : WrittenAt) → Refuses o n p.at r
+      → Answered o r
+  refuse-parsed n left q =
+      refuse-message o p.count (scene p) p.filled p.at p.size p.kept p.marks p.since p.reached p.inside n
+      (parsed-refused (body o) p.at p.inside p.baselines p.records (present p) p.rest p.going n left q)
 
   -- A message of kind n.
-  pub kind-here : (n : ℕ) (x : Context) (vs : List Value) (k : Cursor) → n ≡ get_or (body o) p.at 0
-      → is_message n ≡ true → n ≢ Kind.static → x ≡ context_of (scene p) → gotten (body o) vs k ≡ kind_at (body o) (here (p.at + 1)) x n → Parsed p vs k
+  pub kind-here : (n : ℕ) (x : Context) → n ≡ get_or (body o) p.at 0
+      → is_message n ≡ true → n ≢ Kind.static → x ≡ context_of (scene p) → kind_in x n (drop (p.at + 1) (body o)) ≡ parse (layout_in (scene p)) (drop p.at (body o))
   kind-here = kind_parsed (body o) p.at p.inside p.baselines p.records (present p) p.rest p.going
 
   -- It stays as it was read, or is put anew behind what is kept.
@@ -464,7 +458,7 @@ module _ {o : Opened} (p : Place o) (b : List Baseline) (e : List Record) (x : R
 
 -- ---- where a block is at its end
 
--- No message follows, and what was said of the block's bytes: how many, whether the room is short for them, and what it holds then.
+-- No message follows.
 pub record Ending (o : Opened) : Type 0 where
   pub count : ℕ
   pub state : Scene
@@ -476,15 +470,9 @@ pub record Ending (o : Opened) : Type 0 where
   pub since : ℕ
   pub reached : Reached o count state filled at size kept marks since
   pub over : length (body o) ≤ at
-  pub long : ℕ
-  pub short : Bool
-  pub room : List ℕ
-  pub sized : long ≡ length (block_bytes o.block.on (angles o) (so_far o.block.on filled size (body o) kept at))
-  pub tested : short ≡ ltb (o.block.room - o.block.written) long
-  pub holds : room ≡ put (not short && o.block.stores) o.block.out (o.block.base + o.block.written) (block_bytes o.block.on (angles o) (so_far o.block.on filled size (body o) kept at))
 
 module _ {o : Opened} (e : Ending o) where
-  abbrev formed : List ℕ
+  abbrev pub formed : List ℕ
   formed = block_bytes o.block.on (angles o) (so_far o.block.on e.filled e.size (body o) e.kept e.at)
 
   ended : whole o.block
@@ -496,38 +484,34 @@ module _ {o : Opened} (e : Ending o) where
       ∙ on_end (scene_of b.given) b.d b.on b.stores b.room b.base b.blocks _ b.start (end o) (angles o) b.written b.out (bytes b) o.within
       e.count e.state (so_far b.on e.filled e.size (body o) e.kept e.at) e.at e.over
 
-  pub room-long : length e.room ≡ length o.block.first
-  room-long = ap length e.holds ∙ put-length (not e.short && o.block.stores) o.block.out (o.block.base + o.block.written) formed ∙ o.block.kept.room_long
-
-  room-then : (y : Bool) → e.short ≡ y → e.room ≡ put (not y && o.block.stores) o.block.out (o.block.base + o.block.written) formed
-  room-then y q = e.holds ∙ ap (λ (z : Bool). put (not z && o.block.stores) o.block.out (o.block.base + o.block.written) formed) q
-
   -- The room is short for it.
-  pub short-refused : e.short ≡ true → (r : WrittenAt) → Refuses o 12 e.long r → wrote r e.room ≡ whole o.block
-  short-refused q r s =
+  pub short-refused : (n : ℕ) → n ≡ length formed → o.block.room - o.block.written < n → (room : List ℕ) → room ≡ o.block.out
+      → (r : WrittenAt) → Refuses o 12 n r → wrote r room ≡ whole o.block
+  short-refused n sized short room same r s =
       let b = o.block in
-      ap (wrote r) (room-then true q)
-      ∙ refuse o 12 e.long
+      ap (wrote r) same
+      ∙ refuse o 12 n
       (sym (ended
       ∙ closed-short (scene_of b.given) b.d b.on b.stores b.room b.base b.blocks _ b.start (end o) (angles o) b.written b.out
-      e.count e.state formed e.long (sym e.sized) (ltb-true _ _ (sym e.tested ∙ q))))
+      e.count e.state formed n (sym sized) short))
       r s
 
   -- There is room for it.
-  pub enough : e.short ≡ false → e.long ≤ o.block.room - o.block.written
-  enough q = ltb-false _ _ (sym e.tested ∙ q)
+  module _ (n : ℕ) (sized : n ≡ length formed) (enough : n ≤ o.block.room - o.block.written) (room : List ℕ)
+      (holds : room ≡ put o.block.stores o.block.out (o.block.base + o.block.written) formed) where
+    pub room-long : length room ≡ length o.block.first
+    room-long = ap length holds ∙ put-length o.block.stores o.block.out (o.block.base + o.block.written) formed ∙ o.block.kept.room_long
 
-  pub goes_on : e.short ≡ false
-      → let b = o.block in
-      let w = b.written + e.long in
-      whole b
-      ≡ wrote_of (scene_of b.given) (length b.d) b.stores b.base (b.blocks + 1) e.count w e.room
-      (run_of b.on (b.most - (b.blocks + 1)) (b.room - w) e.state (drop (end o) b.d))
-  goes_on q =
-      let b = o.block in
-      let w = b.written + e.long in
-      let k : b.most - b.blocks - 1 ≡ b.most - (b.blocks + 1) = omega arith in
-      ended
-      ∙ closed_fits (scene_of b.given) b.d b.on b.stores b.room b.base b.blocks _ b.start (end o) (angles o) b.written b.out e.count e.state formed e.long (sym e.sized) (enough q)
-      ∙ ap₂ (λ (y : List ℕ) (j : ℕ). wrote_of (scene_of b.given) (length b.d) b.stores b.base (b.blocks + 1) e.count w y (run_of b.on j (b.room - w) e.state (drop (end o) b.d)))
-      (sym (room-then false q)) k
+    pub goes_on : let b = o.block in
+        let w = b.written + n in
+        whole b
+        ≡ wrote_of (scene_of b.given) (length b.d) b.stores b.base (b.blocks + 1) e.count w room
+        (run_of b.on (b.most - (b.blocks + 1)) (b.room - w) e.state (drop (end o) b.d))
+    goes_on =
+        let b = o.block in
+        let w = b.written + n in
+        let k : b.most - b.blocks - 1 ≡ b.most - (b.blocks + 1) = omega arith in
+        ended
+        ∙ closed_fits (scene_of b.given) b.d b.on b.stores b.room b.base b.blocks _ b.start (end o) (angles o) b.written b.out e.count e.state formed n (sym sized) enough
+        ∙ ap₂ (λ (y : List ℕ) (j : ℕ). wrote_of (scene_of b.given) (length b.d) b.stores b.base (b.blocks + 1) e.count w y (run_of b.on j (b.room - w) e.state (drop (end o) b.d)))
+        (sym holds) k

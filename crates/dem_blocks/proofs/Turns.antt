@@ -1,7 +1,6 @@
 -- A run of blocks one turn at a time: a message more of the block that is being read and written, or a block more.
 -- Assumes nothing.
 use mathlib.Core.Path.{◌≡◌, refl, sym, ap, ap₂, ◌∙◌, subst}
-use mathlib.Core.Logic.{◌≢◌}
 use mathlib.Core.List.{List, [], ◌∷◌, ◌++◌, append_assoc, append-nil}
 use mathlib.Core.Bool.{Bool, true, false, cond, ◌&&◌}
 use Prim.Native.Nat.{ℕ, zero, suc, ◌+◌, ◌-◌, ◌<◌, ◌≤◌}
@@ -10,8 +9,9 @@ use borrow.Author.Tests.{eq-eqb, ne_eqb, lt-ltb, le-ltb, ltb-true, ltb-false, le
 use lib.Dec.{leb, ltb, eqb}
 use lib.ListN.{length, take, drop, get_or, length-take, length-drop, length-append, drop_of_length-le}
 use lib.Seq.{take-nil, drop-cons, drop-drop, length-take-le, sets, length-sets}
-use Rattle.format.specs.Bytes.{Bytes, Result, found, refused, map_result, bind, le_write}
-use Rattle.format.specs.Layout.{Value, number, print}
+use Rattle.format.specs.Refusal.{cut_block, long_block}
+use Rattle.format.specs.Bytes.{Bytes, Result, found, refused, map_result, bind, refused_at, unless, require, le_read, le_write}
+use Rattle.format.specs.Layout.{Value, number, parse, print}
 use Rattle.dem.specs.Scene.{Scene, in_range}
 use Rattle.dem.specs.Message.{Message, fill, apply, normal as normal_message}
 use Rattle.format.specs.Codec.{after, stopped, WrittenRun, silent, roomless, led, write_on, write_most, read_all, fill_all, apply_all, Each, write_normal}
@@ -20,14 +20,18 @@ use Rattle.dem.specs.Recording.{read_message, messages, Block, angle_layout, blo
 use Rattle.dem.specs.Recording.{apply_block, blocks}
 use Rattle.dem.specs.Answer.{count_messages}
 use Rattle.dem.specs.WellFormed.{GoodMessage}
-use Rattle.format.proofs.ResultLaws.{Ranged, suffix-length}
+use Rattle.format.proofs.ResultLaws.{clash, Ranged, suffix-length}
 use Rattle.format.proofs.ByteLaws.{take-bytes, drop-bytes, le-length}
 use Rattle.format.proofs.CodecLaws.{Taken, after_all, shrinks, all-normal}
 use Rattle.format.proofs.ReadLaws.{read_next, all_ranged, all_sound}
 use Rattle.dem.proofs.BlockLaws.{message_lawful, message_normalises}
 use Rattle.dem.proofs.RangeLaws.{message_range}
-use Rattle.dem_framing.specs.Heads.{head_in, head_of}
-use Rattle.dem_framing.specs.declared.HeadAt.{HeadAt}
+use Rattle.std.specs.Prelude.{Ok, Err}
+use Rattle.format.specs.Refusals.{number_of}
+use Rattle.format.specs.declared.refusal.Refused.{Refused}
+use Rattle.dem.specs.Limits.{block_limit, head_size}
+use Rattle.dem_framing.specs.Heads.{sized_head, head_in, head_of}
+use Rattle.dem_framing.specs.declared.Head.{Head}
 use Rattle.dem_framing.proofs.HeadLaws.{block_head}
 use Rattle.format.proofs.ListLaws.{sets_append}
 use Rattle.dem_blocks.specs.Runs.{Told, refused_in, loaded_until, counted_of, told_of, message_form, block_form, Wrote, put, wrote_of, run_of, block_bytes}
@@ -207,23 +211,48 @@ module _ (given : Scene) (d : List ℕ) (on stores : Bool) (room base b n start 
 
 -- ---- blocks
 
+-- A head is refused at its place.
+head_left : (bs : List ℕ) (n : ℕ) (left : List ℕ) → refused n left ≡ head_in bs → left ≡ bs
+unfolding head_in sized_head
+head_left bs n left =
+    go (unless (leb head_size (length bs)) cut_block) (unless (leb size block_limit) long_block)
+    (unless (leb (head_size + size) (length bs)) cut_block) (parse angle_layout (drop 4 bs))
+  where
+    size : ℕ
+    size = le_read (take 4 bs)
+
+    sized : List Value → ℕ × List Value
+    sized angles = (size, angles)
+
+    go : (k l m : ℕ) (q : Result (List Value))
+        → refused n left ≡ require k bs (require l bs (require m bs (map_result sized (refused_at bs q)))) → left ≡ bs
+    go (suc k) l m q e = cc
+    go zero (suc l) m q e = cc
+    go zero zero (suc m) q e = cc
+    go zero zero zero (found a rest) e = clash (cc)
+    go zero zero zero (refused k after) e = cc
+
 -- What a head's reader answers says of the block: it is refused, or its head is good.
-module _ (d : List ℕ) (start : ℕ) (r : HeadAt) (q : head_of d start r ≡ head_in (drop start d)) where
-  answer : Bool → Result (ℕ × List Value)
-  answer good =
-      cond good (found (r.size, number r.angle0 ∷ number r.angle1 ∷ number r.angle2 ∷ []) (drop (start + 16) d))
-      (refused r.refusal (drop start d))
+module _ (d : List ℕ) (start : ℕ) where
+  module _ (r : Refused) (q : head_of d start (Err r) ≡ head_in (drop start d)) where
+    left-here : drop r.place d ≡ drop start d
+    unfolding head_of
+    left-here = head_left (drop start d) (number_of r.refusal) (drop r.place d) q
 
-  pub head-refused : (t : Scene) → t.ended ≡ false → r.refusal ≢ 0 → read_block t (drop start d) ≡ refused r.refusal (drop start d)
-  unfolding head_of answer
-  head-refused t g z =
-      block_head t (drop start d) g
-      ∙ ap (λ (h : Result (ℕ × List Value)). bind h (λ h rest. read_body t h.0 h.1 rest)) (sym q ∙ ap answer (ne_eqb r.refusal 0 z))
+    pub head-place : start < length d → r.place ≡ start
+    head-place l = omega (arith, ap length left-here, length-drop r.place d, length-drop start d)
 
-  pub head-found : r.refusal ≡ 0
-      → head_in (drop start d) ≡ found (r.size, number r.angle0 ∷ number r.angle1 ∷ number r.angle2 ∷ []) (drop (start + 16) d)
-  unfolding head_of answer
-  head-found z = sym q ∙ ap answer (eq-eqb r.refusal 0 z)
+    pub head-refused : (t : Scene) → t.ended ≡ false → read_block t (drop start d) ≡ refused (number_of r.refusal) (drop start d)
+    unfolding head_of
+    head-refused t g =
+        block_head t (drop start d) g
+        ∙ ap (λ (h : Result (ℕ × List Value)). bind h (λ h rest. read_body t h.0 h.1 rest)) (sym q)
+        ∙ ap (refused (number_of r.refusal)) left-here
+
+  pub head-found : (h : Head) → head_of d start (Ok h) ≡ head_in (drop start d)
+      → head_in (drop start d) ≡ found (h.size, number h.angle0 ∷ number h.angle1 ∷ number h.angle2 ∷ []) (drop (start + 16) d)
+  unfolding head_of
+  head-found h q = sym q
 
 module _ (given : Scene) (d : List ℕ) (on stores : Bool) (room base b m w : ℕ) (out : List ℕ) (t : Scene) (start : ℕ) where
   abbrev stops_here : ℕ → Wrote

@@ -33,7 +33,7 @@ head_at d at low =
     let entity = le_read (take w (drop q d)) in
     record { mask = mask_at d at low; entity = record { 0 = entity }; next = q + w; needless = needless_head (mask_at d at low) entity }
 
--- What is known of the head of an update that is not left, at the place of the update's number.
+-- What is known of the head of an update that is loaded, at the place of the update's number.
 pub record HeadLoaded (d : List ℕ) (at : ℕ) (h : LoadedHead) : Type 0 where
   pub large : 128 ≤ get_or d at 0
   pub read : h.head ≡ head_at d (at + 1) (get_or d at 0)
@@ -42,7 +42,7 @@ pub record HeadLoaded (d : List ℕ) (at : ℕ) (h : LoadedHead) : Type 0 where
   pub known : h.index < entity_count
   pub low : h.head.mask < 32768
 
--- What is known of its fields, if they are not left: the record filled from a baseline, and the place behind them, no further than `end`.
+-- What is known of its fields, where they are loaded: the record filled from a baseline, and the place behind them, no further than `end`.
 pub record FieldsLoaded (d : List ℕ) (h : UpdateHead) (b : Baseline) (end : ℕ) (r : RecordAt) : Type 0 where
   pub fields : record_values r.record ≡ filled_at d (baseline_numbers b) h.mask h.next
   pub next : r.next ≡ passed (update_slots (baseline_numbers b)) (bit h.mask) h.next

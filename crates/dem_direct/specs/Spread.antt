@@ -6,7 +6,7 @@ use Rattle.format.specs.Layout.{Value, number, numbers, tail}
 use Rattle.format.specs.Masked.{Slot, Mask, sent_always, is_sent}
 use Rattle.dem.specs.Scene.{Baseline, Context}
 use Rattle.dem.specs.Message.{record_bit, update_slots, client_slots, ground_bit, water_bit, fill_client}
-use Rattle.dem_parts.specs.Kinds.{kind_at}
+use Rattle.dem_parts.specs.Kinds.{kind_in}
 use Rattle.dem_types.specs.declared.Look.{Look}
 use Rattle.dem_types.specs.declared.Pose.{Pose}
 use Rattle.dem_types.specs.Values.{look_values, pose_values}
@@ -70,4 +70,4 @@ client_in d mask at = number (bit_of (bit mask ground_bit)) ∷ number (bit_of (
 
 -- What is read as sent is handed on filled in.
 abbrev pub client_at : List ℕ → ℕ → Context → Result (List Value)
-client_at s at x = map_result (λ vs. fill_client (tail vs)) (kind_at s (record { at = at; refusal = 0 }) x Kind.clientdata)
+client_at s at x = map_result (λ vs. fill_client (tail vs)) (kind_in x Kind.clientdata (drop at s))

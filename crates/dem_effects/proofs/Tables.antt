@@ -2,10 +2,9 @@
 -- Assumes nothing.
 use mathlib.Core.Path.{◌≡◌, sym, ap, ap₂, ◌∙◌, subst}
 use mathlib.Core.List.{List, [], ◌∷◌}
-use mathlib.Core.Bool.{true, false, not, ◌||◌}
+use mathlib.Core.Bool.{true, false, ◌||◌}
 use Prim.Native.Nat.{ℕ, ◌≤◌}
 use borrow.Author.Tests.{le-leb}
-use lib.Dec.{T}
 use lib.ListN.{set}
 use Rattle.dem.specs.Kind
 use Rattle.format.specs.Layout.{Value, number, numbers, tail}
@@ -19,12 +18,9 @@ use Rattle.dem_types.specs.declared.Look.{Look}
 use Rattle.dem_types.specs.declared.Pose.{Pose}
 use Rattle.dem_types.specs.declared.Serverinfo.{Serverinfo}
 use Rattle.dem_types.specs.declared.Update.{Update}
-use denote.Enum.Declared.{tag_of}
-use types.Run.{OneOf, miss}
-use mir.Val.{has_key}
+use types.Run.{OneOf}
 use Rattle.wire.specs.declared.Text.{Text}
-use Rattle.dem_types.specs.contracts.Message as Messages
-use Rattle.dem_types.proofs.ByNumber.{update_place, by_number, not_at}
+use Rattle.dem_types.proofs.ByNumber.{place_of, update_place, by_number, not_at, not_among}
 use Rattle.dem_types.specs.declared.Message.{Message as Sent}
 use Rattle.dem_types.specs.declared.Message.TheVariants as M
 use Rattle.dem_scene.specs.Views.{record_values, baseline_numbers, BaselineOf, Tables, no_tables, unmarked, scene_with, with_tables}
@@ -75,20 +71,16 @@ pub record Tableless (m : Sent) : Type 0 where
   pub baseline : (e : Entity) (l : Look) (p : Pose) → m ≡ M.Baseline e l p → ⊥
   pub update : (u : Update) → m ≡ M.Update u → ⊥
 
--- A message that a match took among these, by their places in the list of messages, is none of another place.
-pub not_among : (ks : List ℕ) (m k : Sent) → OneOf ks (tag_of Messages.the_type m) → T (not (has_key ks (tag_of Messages.the_type k))) → m ≡ k → ⊥
-not_among ks m k h q e = miss ks (tag_of Messages.the_type k) q (subst (λ (x : Sent). OneOf ks (tag_of Messages.the_type x)) e h)
-
 abbrev pub others : List ℕ
 others = 0 ∷ 1 ∷ 2 ∷ 3 ∷ 4 ∷ 5 ∷ 7 ∷ 8 ∷ 9 ∷ 11 ∷ 12 ∷ 13 ∷ 14 ∷ 15 ∷ 16 ∷ 17 ∷ 18 ∷ 19 ∷ 21 ∷ 22 ∷ 23 ∷ 24 ∷ 25 ∷ 26 ∷ 27 ∷ 28 ∷ 29 ∷ 30 ∷ 31 ∷ 32 ∷ []
 
-pub others_tableless : (m : Sent) → OneOf others (tag_of Messages.the_type m) → Tableless m
+pub others_tableless : (m : Sent) → OneOf others (place_of m) → Tableless m
 others_tableless m h =
     record {
-      time = λ v. not_among others m (M.Time v) h tt;
-      serverinfo = λ i. not_among others m (M.Serverinfo i) h tt;
-      baseline = λ e l p. not_among others m (M.Baseline e l p) h tt;
-      update = λ u. not_among others m (M.Update u) h tt;
+      time = λ v e. not_among others m h 6 tt (ap place_of e);
+      serverinfo = λ i e. not_among others m h 10 tt (ap place_of e);
+      baseline = λ e l p q. not_among others m h 20 tt (ap place_of q);
+      update = λ u e. not_among others m h update_place tt (ap place_of e);
     }
 
 -- The tables of a scene after one of them.
@@ -118,11 +110,3 @@ rest_joined s x t q e = ap (with_tables t) q ∙ ap (λ (k : Tables). with_table
 pub of-update : (s : Scene) (m : Sent) (u : Update) (b : Held) → m ≡ M.Update u → baseline_numbers b ≡ baseline_at s u.entity.0
     → BaselineOf s m b
 of-update s m u b e q v f = let z : v ≡ u = cc in ap (λ (w : Update). baseline_at s w.entity.0) z ∙ sym q
-
--- Every message but an update, by its place in the list of messages.
-abbrev pub no_update : List ℕ
-no_update =
-    0 ∷ 1 ∷ 2 ∷ 3 ∷ 4 ∷ 5 ∷ 6 ∷ 7 ∷ 8 ∷ 9 ∷ 10 ∷ 11 ∷ 12 ∷ 13 ∷ 14 ∷ 15 ∷ 16 ∷ 17 ∷ 18 ∷ 19 ∷ 20 ∷ 21 ∷ 22 ∷ 23 ∷ 24 ∷ 25 ∷ 26 ∷ 27 ∷ 28 ∷ 29 ∷ 30 ∷ 31 ∷ 32 ∷ []
-
-pub of_other : (s : Scene) (m : Sent) (b : Held) → OneOf no_update (tag_of Messages.the_type m) → BaselineOf s m b
-of_other s m b h u e = absurd (not_among no_update m (M.Update u) h tt e)

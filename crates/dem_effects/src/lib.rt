@@ -17,41 +17,26 @@ use dem_scene::{Baseline, Filled, Scene};
 use dem_types::{Entity, Look, Message, Pose, Update};
 
 // The baseline of an entity, all zero past the last.
+#[tactic(auto, unfolding(dem_scene::specs::Views::scene_with))]
 pub fn baseline_of(s: Scene, entity: Entity) -> Baseline
     ensures { baseline_numbers result ≡ baseline_at (scene_of s) entity.0 }
 {
     let i = dem_types::index_of(entity);
     if i < ENTITY_COUNT {
-        let b = s.baselines[i];
-        return b;
+        return s.baselines[i];
     }
-    let look = Look {
-        model: 0,
-        frame: 0,
-        colormap: 0,
-        skin: 0,
-    };
-    let pose = Pose {
-        x: 0,
-        angle0: 0,
-        y: 0,
-        angle1: 0,
-        z: 0,
-        angle2: 0,
-    };
-    Baseline { look, pose }
+    Baseline::CLEARED
 }
 
-fn with_baseline(s: Scene, entity: Entity, look: Look, pose: Pose) -> Scene
+#[tactic(auto, unfolding(dem_scene::specs::Views::scene_with, dem::specs::Message::apply))]
+fn with_baseline(mut s: Scene, entity: Entity, look: Look, pose: Pose) -> Scene
     ensures { scene_of result ≡ apply (scene_of s) (number Kind.baseline ∷ number entity.0 ∷ (look_values look ++ pose_values pose)) }
 {
     let i = dem_types::index_of(entity);
-    let mut y = s;
     if i < ENTITY_COUNT {
-        let b = Baseline { look, pose };
-        y.baselines[i] = b;
+        s.baselines[i] = Baseline { look, pose };
     }
-    y
+    s
 }
 
 // How many marks are set once this one is: one more, if it was not.
@@ -62,26 +47,24 @@ fn count_with(set: bool, count: usize) -> usize
     if set { count } else { count + 1 }
 }
 
-fn with_update(s: Scene, u: Update) -> Scene
+#[tactic(auto, unfolding(dem_scene::specs::Views::scene_with))]
+fn with_update(mut s: Scene, u: Update) -> Scene
     requires { s.present_count ≤ entity_count }
     ensures { Kind.update ≤ u.number → scene_of result ≡ apply (scene_of s) (fill (scene_of s) (update_values u)) }
 {
-    let entity = u.entity;
-    let i = dem_types::index_of(entity);
-    let b = baseline_of(s, entity);
-    let record = dem_scene::fill_update(u, b);
-    let mut y = s;
+    let i = dem_types::index_of(u.entity);
+    let record = dem_scene::fill_update(u, baseline_of(s, u.entity));
     if i < ENTITY_COUNT {
-        y.records[i] = record;
-        let set = y.present[i];
-        y.present_count = count_with(set, y.present_count);
-        y.present[i] = true;
+        s.records[i] = record;
+        s.present_count = count_with(s.present[i], s.present_count);
+        s.present[i] = true;
     }
-    y
+    s
 }
 
 // The scene after a message, whose strings are places in a text.
-pub fn scene_after(s: Scene, m: Message, text: &[u8]) -> Scene
+#[tactic(auto, unfolding(dem_scene::specs::Views::scene_with, dem::specs::Message::apply, dem::specs::Message::fill))]
+pub fn scene_after(mut s: Scene, m: Message, text: &[u8]) -> Scene
     requires { (s.rest.statics < 255) × (s.present_count ≤ entity_count) }
     ensures { Numbered m → scene_of result ≡ apply (scene_of s) (fill (scene_of s) (values_of text.now m)) }
 {
@@ -90,38 +73,26 @@ pub fn scene_after(s: Scene, m: Message, text: &[u8]) -> Scene
         Message::Baseline(entity, look, pose) => with_baseline(s, entity, look, pose),
         Message::Serverinfo(i) => dem_scene::cleared_scene(i.limit),
         Message::Time(_) => {
-            let rest = s.rest;
-            let after = dem_scene::apply_rest(rest, m, text);
-            let present = [false; ENTITY_COUNT];
-            let mut y = s;
-            y.present = present;
-            y.present_count = 0;
-            y.rest = after;
-            y
+            s.rest = dem_scene::apply_rest(s.rest, m, text);
+            s.present = [false; ENTITY_COUNT];
+            s.present_count = 0;
+            s
         }
         _ => {
-            let rest = s.rest;
-            let after = dem_scene::apply_rest(rest, m, text);
-            let mut y = s;
-            y.rest = after;
-            y
+            s.rest = dem_scene::apply_rest(s.rest, m, text);
+            s
         }
     }
 }
 
 // The filled-in form of a message.
+#[tactic(auto, unfolding(dem::specs::Message::fill))]
 pub fn filled_in(s: Scene, m: Message) -> Filled
     ensures { (v : Message → List Value) (t : Text → List ℕ) → v m ≡ values_by t m → Numbered m → filled_by v result ≡ fill (scene_of s) (values_by t m) }
 {
     match m {
-        Message::Update(u) => {
-            let entity = u.entity;
-            let b = baseline_of(s, entity);
-            dem_scene::fill_message(m, b)
-        }
-        _ => {
-            let b = baseline_of(s, Entity(0));
-            dem_scene::fill_message(m, b)
-        }
+        Message::Update(u) => dem_scene::fill_message(m, baseline_of(s, u.entity)),
+        // Without a mask no baseline is read.
+        _ => dem_scene::fill_message(m, Baseline::CLEARED),
     }
 }

@@ -3,14 +3,12 @@
 use mathlib.Core.Path.{◌≡◌, refl, sym, ap, ◌∙◌, subst}
 use mathlib.Core.List.{List, [], ◌∷◌}
 use mathlib.Core.Bool.{Bool, true, false, cond}
-use Prim.Native.Nat.{ℕ, suc, ◌+◌, ◌/◌, ◌%◌, ◌≤◌, ◌<◌}
-use native.Mathlib.Numerals.{add-one}
+use Prim.Native.Nat.{ℕ, ◌+◌, ◌-◌, ◌/◌, ◌%◌, ◌≤◌, ◌<◌}
 use native.Mathlib.Omega.{arith}
-use borrow.Author.Tests.{lt-ltb, le-ltb, ltb-true}
+use borrow.Author.Tests.{lt-ltb, le-ltb, ltb-true, ltb-false}
 use lib.Dec.{ltb}
 use lib.IntN.{ℤ, pos, negsuc, nat_abs}
-use lib.ListN.{length, set, drop}
-use lib.Seq.{sets}
+use lib.ListN.{length, take, drop}
 use lib.Signed.{lt_z}
 use mir.Syntax.{w16}
 use mir.Val.{to_z, of_z, SFits}
@@ -20,8 +18,6 @@ use Rattle.format.specs.Digits.{line_feed, digit_zero}
 use Rattle.dem.specs.Track.{TrackLine, minus_sign, read_track, track_number, digits_of, normal_track, digit_bytes, write_track}
 use Rattle.format.proofs.ResultLaws.{clash}
 use Rattle.dem.proofs.TrackLaws.{track-sound, track_range, digit-length}
-use Rattle.dem_framing.specs.Tracks.{track_of}
-use Rattle.dem_framing.specs.declared.TrackAt.{TrackAt}
 
 -- ---- digits, by the number's size
 
@@ -46,35 +42,26 @@ digits-most v = go (ltb v 10) (ltb v 100)
     go false true = omega arith
     go false false = omega arith
 
--- ---- digits, stored one by one
-
-module _ (v : ℕ) (h : v < 10) where
-  pub one_size : length (digit_bytes (digits_of v)) ≡ 2
-  one_size = ap (λ (ds : List ℕ). length (digit_bytes ds)) (one_digit v h)
-
-  pub one-put : (s : List ℕ) (at d : ℕ) → d ≡ v + digit_zero → set (set s at d) (at + 1) line_feed ≡ sets s at (digit_bytes (digits_of v))
-  one-put s at d e = rw (one_digit v h, e, add-one at)
-
-module _ (v : ℕ) (l : 10 ≤ v) (h : v < 100) where
-  pub two_size : length (digit_bytes (digits_of v)) ≡ 3
-  two_size = ap (λ (ds : List ℕ). length (digit_bytes ds)) (two_digits v l h)
-
-  pub two-put : (s : List ℕ) (at d e : ℕ) → d ≡ v / 10 + digit_zero → e ≡ v % 10 + digit_zero
-      → set (set (set s at d) (at + 1) e) (at + 2) line_feed ≡ sets s at (digit_bytes (digits_of v))
-  two-put s at d e p q =
-      let second : at + 2 ≡ suc (suc at) = omega arith in
-      rw (two_digits v l h, p, q, add-one at, second)
-
-module _ (v : ℕ) (h : 100 ≤ v) where
-  pub three-size : length (digit_bytes (digits_of v)) ≡ 4
-  three-size = ap (λ (ds : List ℕ). length (digit_bytes ds)) (three-digits v h)
-
-  pub three-put : (s : List ℕ) (at d e f : ℕ) → d ≡ v / 100 + digit_zero → e ≡ v / 10 % 10 + digit_zero → f ≡ v % 10 + digit_zero
-      → set (set (set (set s at d) (at + 1) e) (at + 2) f) (at + 3) line_feed ≡ sets s at (digit_bytes (digits_of v))
-  three-put s at d e f p q r =
-      let second : at + 2 ≡ suc (suc at) = omega arith in
-      let third : at + 3 ≡ suc (suc (suc at)) = omega arith in
-      rw (three-digits v h, p, q, r, add-one at, second, third)
+-- As code has them: the last bytes of a line of three digits.
+module _ (v : ℕ) (small : v < 1000) (n d e f : ℕ) (p : n ≡ length (digits_of v)) (q : d ≡ v / 100 + digit_zero)
+    (r : e ≡ v / 10 % 10 + digit_zero) (t : f ≡ v % 10 + digit_zero) where
+  pub digits_line : take (4 - (3 - n)) (drop (3 - n) (d ∷ e ∷ f ∷ line_feed ∷ [])) ≡ digit_bytes (digits_of v)
+  digits_line = rw (p, q, r, t) (go (ltb v 10) refl (ltb v 100) refl)
+    where
+      go : (x : Bool) → ltb v 10 ≡ x → (y : Bool) → ltb v 100 ≡ y
+          → take (4 - (3 - length (digits_of v)))
+          (drop (3 - length (digits_of v)) ((v / 100 + digit_zero) ∷ (v / 10 % 10 + digit_zero) ∷ (v % 10 + digit_zero) ∷ line_feed ∷ []))
+          ≡ digit_bytes (digits_of v)
+      go true a y b =
+          let l : v < 10 = ltb-true v 10 a in
+          let m : v % 10 ≡ v = omega arith in
+          rw (one_digit v l, m)
+      go false a true b =
+          let l : v < 100 = ltb-true v 100 b in
+          let k : 10 ≤ v = ltb-false v 10 a in
+          let m : v / 10 % 10 ≡ v / 10 = omega arith in
+          rw (two_digits v k l, m)
+      go false a false b = rw (three-digits v (ltb-false v 100 b))
 
 -- ---- the line
 
@@ -107,12 +94,12 @@ line-size z b f v n e m t = go b ∙ ap length (sym (line z b f v e t))
 
 -- ---- a number that was read
 
-pub number_range : (s : List ℕ) (r : TrackAt) → Bytes s → r.refusal ≡ 0 → track_of s r ≡ map_result track_number (read_track s) → nat_abs r.number < 1000
-unfolding track_of
-number_range s r h z e = go (read_track s) refl (rw z at e)
+pub number_range : (s : List ℕ) (number : ℤ) (next : ℕ) → Bytes s → found number (drop next s) ≡ map_result track_number (read_track s)
+    → nat_abs number < 1000
+number_range s number next h e = go (read_track s) refl e
   where
-    go : (q : Result TrackLine) → read_track s ≡ q → found r.number (drop r.at s) ≡ map_result track_number q → nat_abs r.number < 1000
+    go : (q : Result TrackLine) → read_track s ≡ q → found number (drop next s) ≡ map_result track_number q → nat_abs number < 1000
     go (found t rest) p e =
-        let n : r.number ≡ track_number t = cc in
+        let n : number ≡ track_number t = cc in
         rw n (track_range t (track-sound s t rest h p).good)
     go (refused n left) p e = clash (cc)

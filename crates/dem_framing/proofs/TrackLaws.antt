@@ -2,18 +2,19 @@
 -- Assumes nothing.
 use mathlib.Core.Path.{◌≡◌, refl, sym, ap, ◌∙◌}
 use mathlib.Core.List.{List, [], ◌∷◌}
+use Rattle.std.specs.Char.{is_ascii_digit}
+use Rattle.std.specs.List.{starts_with}
 use mathlib.Core.Bool.{Bool, true, false, cond, ◌&&◌}
 use Prim.Native.Nat.{ℕ, zero, suc, ◌+◌, ◌-◌, ◌*◌, ◌^◌, ◌≤◌, ◌<◌}
-use native.Mathlib.Nat.{pow-le-pow_right, lt_of_lt_of_le}
 use native.Mathlib.Numerals.{add-one}
 use native.Mathlib.Omega.{arith}
-use borrow.Author.Tests.{lt-ltb, ltb-true, leb-true}
+use borrow.Author.Tests.{lt-ltb, le-ltb, ltb-true, leb-true, leb-false, eq-eqb, ne_eqb, eqb-true, eqb-false}
 use lib.Dec.{leb, ltb, eqb, lit<}
 use lib.IntN.{ℤ, pos, negsuc, neg_ℤ, ◌-ℤ◌}
 use lib.ListN.{length, drop, get_or, drop_of_length-le}
 use lib.Seq.{drop-cons, drop-length}
 use mir.Syntax.{w16}
-use mir.Val.{to_z, of_z, SFits}
+use mir.Val.{bool_byte, to_z, of_z, SFits}
 use mir.ValLaws.{to_z_pos, to_z-of_z}
 use Rattle.format.specs.Refusal.{code, wrong_track}
 use Rattle.format.specs.Bytes.{Result, found, refused, map_result}
@@ -21,7 +22,7 @@ use Rattle.format.specs.Digits.{line_feed, digit_zero, decimal}
 use Rattle.dem.specs.Track.{minus_sign, most_digits, is_digit, read_digits, line_of, read_track, track_number}
 use Rattle.format.proofs.ResultLaws.{clash}
 use Rattle.format.proofs.LayoutLaws.{and_true}
-use Rattle.dem_framing.specs.Tracks.{answer_at, digits_from}
+use Rattle.dem_framing.specs.Tracks.{digits_from}
 
 -- ---- one byte
 
@@ -70,6 +71,8 @@ module _ (s : List ℕ) (at digits value : ℕ) where
       twice d (found ds rest) = refl
       twice d (refused n left) = refl
 
+pub ruleset lines = (line_end, line_cut, line_wrong, line_digit)
+
 -- ---- the number
 
 -- What a digit's test says.
@@ -79,17 +82,30 @@ another_digit digits b e =
     let q = and_true (leb digit_zero b) (ltb b (digit_zero + 10)) p.1 in
     (ltb-true digits most_digits p.0, leb-true digit_zero b q.0, ltb-true b (digit_zero + 10) q.1)
 
-pub value-below : {digits n value : ℕ} → digits ≤ n → value < 10 ^ digits → value < 10 ^ n
-value-below h l = lt_of_lt_of_le l (pow-le-pow_right (lit< tt) h)
-
 pub value_grows : (digits value d : ℕ) → value < 10 ^ digits → d < 10 → value * 10 + d < 10 ^ (digits + 1)
 value_grows digits value d h l = rw add-one (omega arith)
 
+-- The test for one.
+pub digit_test : (b : ℕ) → is_ascii_digit b ≡ is_digit b
+digit_test b = ap (λ (x : Bool). leb digit_zero b && x) (go (leb b 57) refl)
+  where
+    go : (x : Bool) → leb b 57 ≡ x → x ≡ ltb b (digit_zero + 10)
+    go true e = sym (lt-ltb b (digit_zero + 10) (omega (arith, leb-true b 57 e)))
+    go false e = sym (le-ltb b (digit_zero + 10) (omega (arith, leb-false b 57 e)))
+
 -- ---- the sign
 
-pub no_minus : (s : List ℕ) → length s ≤ 0 → false ≡ eqb (get_or s 0 0) minus_sign
-no_minus [] h = refl
-no_minus (b ∷ s) h = let z : ⊥ = omega arith in absurd z
+minus_test : (s : List ℕ) → starts_with eqb s (minus_sign ∷ []) ≡ eqb (get_or s 0 0) minus_sign
+minus_test [] = refl
+minus_test (b ∷ s) = ap (λ (x : Bool). x && true) (go (eqb minus_sign b) refl) ∙ and_yes (eqb b minus_sign)
+  where
+    go : (x : Bool) → eqb minus_sign b ≡ x → x ≡ eqb b minus_sign
+    go true e = sym (eq-eqb b minus_sign (sym (eqb-true minus_sign b e)))
+    go false e = sym (ne_eqb b minus_sign (λ z. eqb-false minus_sign b e (sym z)))
+
+    and_yes : (x : Bool) → (x && true) ≡ x
+    and_yes true = refl
+    and_yes false = refl
 
 -- A number with its sign.
 abbrev pub signed : Bool → ℕ → ℤ
@@ -108,15 +124,25 @@ track_signed [] false e = refl
 track_signed (b ∷ s) true e = rw e (signs true (read_digits false most_digits s))
 track_signed (b ∷ s) false e = rw e (signs false (read_digits false most_digits (b ∷ s)))
 
-pub track-read : (s : List ℕ) (negative : Bool) (value at refusal : ℕ) → eqb (get_or s 0 0) minus_sign ≡ negative
-    → answer_at s value at refusal ≡ digits_from s (cond negative 1 0) 0 0
-    → answer_at s (signed negative value) at refusal ≡ map_result track_number (read_track s)
-track-read s negative value at refusal e p = go (eqb refusal 0) ∙ ap (map_result (signed negative)) p ∙ track_signed s negative e
-  where
-    go : (b : Bool) → cond b (found (signed negative value) (drop at s)) (refused refusal (drop at s))
-        ≡ map_result (signed negative) (cond b (found value (drop at s)) (refused refusal (drop at s)))
-    go true = refl
-    go false = refl
+-- As code tests for it, and begins behind it.
+module _ (s : List ℕ) (negative : Bool) (start : ℕ) (e : negative ≡ starts_with eqb s (minus_sign ∷ []))
+    (p : start ≡ bool_byte negative) where
+  of_digits : (q : Result ℕ) → q ≡ digits_from s start 0 0 → map_result (signed negative) q ≡ map_result track_number (read_track s)
+  of_digits q h =
+      ap (map_result (signed negative)) (h ∙ ap (λ (n : ℕ). digits_from s n 0 0) (p ∙ go negative))
+      ∙ track_signed s negative (sym (e ∙ minus_test s))
+    where
+      go : (b : Bool) → bool_byte b ≡ cond b 1 0
+      go true = refl
+      go false = refl
+
+  pub track_found : (v : ℕ) (rest : List ℕ) → found v rest ≡ digits_from s start 0 0
+      → found (signed negative v) rest ≡ map_result track_number (read_track s)
+  track_found v rest h = of_digits (found v rest) h
+
+  pub track_refused : (n : ℕ) (left : List ℕ) → refused n left ≡ digits_from s start 0 0
+      → refused n left ≡ map_result track_number (read_track s)
+  track_refused n left h = of_digits (refused n left) h
 
 -- As code has it, for a number of at most three digits.
 module _ (v : ℕ) (h : v < 1000) where
@@ -130,7 +156,7 @@ module _ (v : ℕ) (h : v < 1000) where
       go zero = refl
       go (suc n) = rw (lt-ltb 0 (suc n) (omega arith)) (ap negsuc (omega arith))
 
-  pub minus_fits : SFits w16 (pos 0 -ℤ to_z w16 v)
+  minus_fits : SFits w16 (pos 0 -ℤ to_z w16 v)
   minus_fits = rw minus (go v h)
     where
       go : (n : ℕ) → n < 1000 → SFits w16 (neg_ℤ (pos n))

@@ -1,11 +1,14 @@
 -- A block's head without its body: what it reads to, and what an answer about it says.
-use Rattle.std.specs.Prelude.{List, [], ◌∷◌, cond, ℕ, ◌+◌, length, take, drop, leb, eqb}
+use Rattle.std.specs.Prelude as Rust
+use Rattle.std.specs.Prelude.{List, [], ◌∷◌, ℕ, ◌+◌, length, take, drop, leb, Ok, Err}
 use Rattle.dem.specs.Limits.{block_limit, head_size}
-use Rattle.format.specs.Refusal.{code, cut_block, long_block}
+use Rattle.format.specs.Refusal.{cut_block, long_block}
 use Rattle.format.specs.Bytes.{Result, found, refused, map_result, refused_at, unless, require, le_read}
 use Rattle.format.specs.Layout.{Value, number, parse}
 use Rattle.dem.specs.Recording.{angle_layout}
-use Rattle.dem_framing.specs.declared.HeadAt.{HeadAt}
+use Rattle.format.specs.Refusals.{number_of}
+use Rattle.format.specs.declared.refusal.Refused.{Refused}
+use Rattle.dem_framing.specs.declared.Head.{Head}
 
 -- A head with this size: the size and the angles. The order of the tests is document 01's.
 unfoldable pub sized_head : ℕ → List ℕ → Result (ℕ × List Value)
@@ -19,13 +22,17 @@ unfoldable pub head_in : List ℕ → Result (ℕ × List Value)
 head_in bs = sized_head (le_read (take 4 bs)) bs
 
 -- An answer about the head at a place.
-unfoldable pub head_of : List ℕ → ℕ → HeadAt → Result (ℕ × List Value)
-head_of s at r =
-    cond (eqb r.refusal 0)
-    (found (r.size, number r.angle0 ∷ number r.angle1 ∷ number r.angle2 ∷ []) (drop (at + head_size) s))
-    (refused r.refusal (drop at s))
+unfoldable pub head_of : List ℕ → ℕ → Rust.Result Head Refused → Result (ℕ × List Value)
+head_of s at (Ok h) = found (h.size, number h.angle0 ∷ number h.angle1 ∷ number h.angle2 ∷ []) (drop (at + head_size) s)
+head_of s at (Err r) = refused (number_of r.refusal) (drop r.place s)
 
--- A head's refusal, by the bytes left, its size, and its angles' refusal.
-unfoldable pub head_refusal : ℕ → ℕ → ℕ → ℕ
-head_refusal left size angles =
-    cond (leb head_size left) (cond (leb size block_limit) (cond (leb (head_size + size) left) angles (code cut_block)) (code long_block)) (code cut_block)
+-- The size alone, where the head and the body are whole.
+unfoldable pub size_in : List ℕ → Result ℕ
+size_in bs =
+    let size = le_read (take 4 bs) in
+    require (unless (leb head_size (length bs)) cut_block) bs
+    (require (unless (leb size block_limit) long_block) bs
+    (require (unless (leb (head_size + size) (length bs)) cut_block) bs (found size (drop 4 bs))))
+
+abbrev pub angle_values : ℕ × ℕ × ℕ → List Value
+angle_values a = number a.0 ∷ number a.1 ∷ number a.2 ∷ []

@@ -1,39 +1,30 @@
 // The head of a block, and the track line in front of the first.
 #![tactic(auto)]
 
-ghost use Rattle.std.specs.Prelude.{◌≡◌, [], ◌∷◌, ◌++◌, ◌+◌, ◌-◌, ◌≤◌, ◌<◌, eqb, nat_abs, length, drop, get_or};
+ghost use Rattle.std.specs.Prelude.{◌≡◌, ◌++◌, ℕ, ◌+◌, ◌≤◌, ◌<◌, ℤ, nat_abs, length, drop, IfOk, IfErr};
 ghost use Rattle.std.proofs.lemmas.List.Edits.{sets};
 ghost use Rattle.dem.specs.Limits.{block_limit, head_size};
-ghost use Rattle.format.specs.Bytes.{map_result};
-ghost use Rattle.format.specs.Layout.{number};
+ghost use Rattle.format.specs.Bytes.{map_result, read_number};
+ghost use Rattle.format.specs.Layout.{parse};
 ghost use Rattle.format.specs.Floats.{is_finite, angle_rule};
 ghost use Rattle.format.specs.Digits.{digit_zero};
-ghost use Rattle.dem.specs.Track.{minus_sign, read_track, track_number, digits_of, digit_bytes, normal_track, write_track};
+ghost use Rattle.dem.specs.Track.{read_track, track_number, digits_of, digit_bytes, normal_track, write_track};
 ghost use Rattle.dem.specs.Recording.{angle_layout};
-ghost use Rattle.wire.specs.Cursors.{gotten, number_at, parse_at};
-ghost use Rattle.dem_framing.specs.Heads.{head_refusal, head_of, head_in};
-ghost use Rattle.dem_framing.specs.Tracks.{answer_at, digits_from, track_of};
+ghost use Rattle.wire.specs.Reads.{read_of};
+ghost use Rattle.dem_framing.specs.Heads.{angle_values, size_in, head_of, head_in};
+ghost use Rattle.dem_framing.specs.Tracks.{digits_from};
 
 use dem::limit::{BLOCK_LIMIT, HEAD_SIZE};
-use format::refusal::{CUT_BLOCK, LONG_BLOCK, WRONG_ANGLE, WRONG_TRACK};
-use wire::{Cursor, Number};
+use format::refusal::{Refusal, Refused};
+use wire::{Read, load, read};
 
-// A block's size, the bits of its three angles, and the head's refusal, 0 for none.
+// A block's size, and the bits of its three angles.
 #[derive(Clone, Copy)]
-pub struct HeadAt {
+pub struct Head {
     pub size: usize,
     pub angle0: u32,
     pub angle1: u32,
     pub angle2: u32,
-    pub refusal: u8,
-}
-
-#[derive(Drop)]
-struct AnglesAt {
-    angle0: u32,
-    angle1: u32,
-    angle2: u32,
-    cursor: Cursor,
 }
 
 // The bits of a float that is neither infinite nor no number.
@@ -43,163 +34,120 @@ fn is_finite(bits: u32) -> bool
     bits / 8388608 % 256 < 255
 }
 
-fn read_angle(s: &[u8], c: Cursor) -> Number
-    ensures { gotten s.now result.value result.cursor ≡ number_at s.now c 4 angle_rule }
+#[tactic(auto, unfolding(format::specs::Bytes::read_number))]
+fn read_angle(s: &[u8], at: usize) -> Read<u32>
+    ensures { read_of (λ (v : ℕ). v) s.now result ≡ read_number 4 angle_rule (drop at s.now) }
 {
-    let n = wire::read_number(s, c, 4);
-    let value = n.value;
-    let cursor = wire::refuse_if(n.cursor, c.at, !is_finite(value), WRONG_ANGLE);
-    Number { value, cursor }
-}
-
-fn read_angles(s: &[u8], c: Cursor) -> AnglesAt
-    ensures { gotten s.now (number result.angle0 ∷ number result.angle1 ∷ number result.angle2 ∷ []) result.cursor ≡ parse_at s.now c angle_layout }
-{
-    let x = read_angle(s, c);
-    let y = read_angle(s, x.cursor);
-    let z = read_angle(s, y.cursor);
-    let cursor = z.cursor;
-    AnglesAt {
-        angle0: x.value,
-        angle1: y.value,
-        angle2: z.value,
-        cursor,
+    let (bits, next) = read::<u32>(s, at)?;
+    if !is_finite(bits) {
+        return Err(Refused {
+            refusal: Refusal::WrongAngle,
+            place: at,
+        });
     }
+    Ok((bits, next))
 }
 
-// The bytes from a place to the end; none past it.
-fn left_at(end: usize, at: usize) -> usize
-    ensures { result ≡ end - at }
+#[tactic(auto, unfolding(format::specs::Layout::parse))]
+fn read_angles(s: &[u8], at: usize) -> Read<(u32, u32, u32)>
+    ensures { read_of angle_values s.now result ≡ parse angle_layout (drop at s.now) }
 {
-    if at <= end { end - at } else { 0 }
+    let (x, at) = read_angle(s, at)?;
+    let (y, at) = read_angle(s, at)?;
+    let (z, at) = read_angle(s, at)?;
+    Ok(((x, y, z), at))
 }
 
-// A head's refusal, by the bytes left, its size, and its angles' refusal.
-fn head_refusal(left: usize, size: u32, angles: u8) -> u8
-    ensures { result ≡ head_refusal left size angles }
+// The size in a block's head. The head and the body must be whole.
+#[tactic(auto, unfolding(crate::specs::Heads::size_in))]
+fn read_size(s: &[u8], at: usize) -> Read<usize>
+    ensures value { read_of (λ (v : ℕ). v) s.now result ≡ size_in (drop at s.now) }
+    ensures within { IfOk result (λ r. at + head_size + r.0 ≤ length s.now) }
+    ensures small { IfOk result (λ r. r.0 ≤ block_limit) }
+    ensures refused_here { IfErr result (λ r. r.place ≡ at) }
 {
+    let refused = |refusal| Err(Refused { refusal, place: at });
+    let left = s.len().saturating_sub(at);
     if left < HEAD_SIZE {
-        CUT_BLOCK
-    } else if BLOCK_LIMIT < size {
-        LONG_BLOCK
-    } else if left < HEAD_SIZE + size as usize {
-        CUT_BLOCK
-    } else {
-        angles
+        return refused(Refusal::CutBlock);
     }
+    let size = load::<u32>(s, at);
+    if BLOCK_LIMIT < size {
+        return refused(Refusal::LongBlock);
+    }
+    if left < HEAD_SIZE + size as usize {
+        return refused(Refusal::CutBlock);
+    }
+    Ok((size as usize, at + 4))
 }
 
 // The head of the block at a place.
-pub fn read_head(s: &[u8], at: usize) -> HeadAt
-    ensures result_value { head_of s.now at result ≡ head_in (drop at s.now) }
-    ensures within { result.refusal ≡ 0 → at + head_size + result.size ≤ length s.now }
-    ensures small { result.refusal ≡ 0 → result.size ≤ block_limit }
+#[tactic(auto, using(crate::proofs::HeadLaws::refused_heads), unfolding(crate::specs::Heads::head_of))]
+pub fn read_head(s: &[u8], at: usize) -> Result<Head, Refused>
+    ensures value { head_of s.now at result ≡ head_in (drop at s.now) }
+    ensures within { IfOk result (λ h. at + head_size + h.size ≤ length s.now) }
+    ensures small { IfOk result (λ h. h.size ≤ block_limit) }
+    ensures refused_here { IfErr result (λ r. r.place ≡ at) }
 {
-    let n = wire::read_number(s, Cursor { at, refusal: 0 }, 4);
-    let size = n.value;
-    let a = read_angles(s, n.cursor);
-    let angles = a.cursor;
-    let refusal = head_refusal(left_at(s.len(), at), size, angles.refusal);
-    HeadAt {
-        size: size as usize,
-        angle0: a.angle0,
-        angle1: a.angle1,
-        angle2: a.angle2,
-        refusal,
+    let (size, next) = read_size(s, at)?;
+    match read_angles(s, next) {
+        Ok(((angle0, angle1, angle2), _)) => Ok(Head {
+            size,
+            angle0,
+            angle1,
+            angle2,
+        }),
+        Err(r) => Err(Refused {
+            refusal: r.refusal,
+            place: at,
+        }),
     }
-}
-
-// A track number, the place behind its line, or of the first wrong byte or the end, and the line's refusal, 0 for none.
-#[derive(Clone, Copy)]
-pub struct TrackAt {
-    pub number: i16,
-    pub at: usize,
-    pub refusal: u8,
-}
-
-#[derive(Drop)]
-struct DigitsAt {
-    value: u16,
-    at: usize,
-    refusal: u8,
 }
 
 // One to three digits, and the line feed.
-fn read_digits(s: &[u8], start: usize) -> DigitsAt
-    ensures refusal_value { answer_at s.now result.value result.at result.refusal ≡ digits_from s.now start 0 0 }
-    ensures small { result.value < 1000 }
-    ensures within { result.at ≤ length s.now }
+#[tactic(auto, using(crate::proofs::TrackLaws::lines))]
+fn read_digits(s: &[u8], start: usize) -> Read<u16>
+    ensures value { read_of (λ (v : ℕ). v) s.now result ≡ digits_from s.now start 0 0 }
+    ensures small { IfOk result (λ r. r.0 < 1000) }
+    ensures within { IfOk result (λ r. r.1 ≤ length s.now) }
+    ensures refused_within { IfErr result (λ r. r.place ≤ length s.now) }
 {
-    let mut at = start;
     let mut value: u16 = 0;
-    let mut digits: usize = 0;
-    while at < s.len() {
+    for at in start..s.len() {
         let b = s[at];
+        let digits = at - start;
         if (0 < digits) & (b == b'\n') {
-            return DigitsAt {
-                value,
-                at: at + 1,
-                refusal: 0,
-            };
+            return Ok((value, at + 1));
         }
-        let another = (digits < 3) & ((b'0' <= b) & (b < b'0' + 10));
+        let another = (digits < 3) & b.is_ascii_digit();
         if !another {
-            return DigitsAt {
-                value,
-                at,
-                refusal: WRONG_TRACK,
-            };
+            return Err(Refused {
+                refusal: Refusal::WrongTrack,
+                place: at,
+            });
         }
-        value = value * 10 + (b - b'0') as u16;
-        digits += 1;
-        at += 1;
+        value = value * 10 + u16::from(b - b'0');
     }
-    DigitsAt {
-        value,
-        at: s.len(),
-        refusal: WRONG_TRACK,
-    }
-}
-
-fn is_negative(s: &[u8]) -> bool
-    ensures { result ≡ eqb (get_or s.now 0 0) minus_sign }
-{
-    if 0 < s.len() { s[0] == b'-' } else { false }
+    Err(Refused {
+        refusal: Refusal::WrongTrack,
+        place: s.len(),
+    })
 }
 
 // The track line at the start of the bytes.
-pub fn read_track(s: &[u8]) -> TrackAt
-    ensures result_value { track_of s.now result ≡ map_result track_number (read_track s.now) }
-    ensures within { result.at ≤ length s.now }
+#[tactic(auto, using(crate::proofs::TrackLaws::track_refused))]
+pub fn read_track(s: &[u8]) -> Read<i16>
+    ensures value { read_of (λ (z : ℤ). z) s.now result ≡ map_result track_number (read_track s.now) }
+    ensures within { IfOk result (λ r. r.1 ≤ length s.now) }
+    ensures refused_within { IfErr result (λ r. r.place ≤ length s.now) }
 {
-    if is_negative(s) {
-        let d = read_digits(s, 1);
-        return TrackAt {
-            number: -(d.value as i16),
-            at: d.at,
-            refusal: d.refusal,
-        };
-    }
-    let d = read_digits(s, 0);
-    TrackAt {
-        number: d.value as i16,
-        at: d.at,
-        refusal: d.refusal,
-    }
+    let negative = s.starts_with(b"-");
+    let (value, at) = read_digits(s, usize::from(negative))?;
+    let number = value.cast_signed();
+    Ok((if negative { -number } else { number }, at))
 }
 
 // ---- written
-
-// A number without its sign.
-fn magnitude(number: i16) -> u16
-    ensures { result ≡ nat_abs number }
-{
-    if number < 0 {
-        (-1 - number) as u16 + 1
-    } else {
-        number as u16
-    }
-}
 
 // How many digits a number below 1,000 has.
 fn digit_count(v: u16) -> usize
@@ -227,29 +175,18 @@ fn put_digits(room: &mut [u8], at: usize, v: u16) -> usize
     ensures put { room.new ≡ sets room.old at (digit_bytes (digits_of v)) }
     ensures next { result ≡ at + length (digit_bytes (digits_of v)) }
 {
-    if v < 10 {
-        room[at] = digit(v);
-        room[at + 1] = b'\n';
-        return at + 2;
-    }
-    if v < 100 {
-        room[at] = digit(v / 10);
-        room[at + 1] = digit(v % 10);
-        room[at + 2] = b'\n';
-        return at + 3;
-    }
-    room[at] = digit(v / 100);
-    room[at + 1] = digit(v / 10 % 10);
-    room[at + 2] = digit(v % 10);
-    room[at + 3] = b'\n';
-    at + 4
+    let longest = [digit(v / 100), digit(v / 10 % 10), digit(v % 10), b'\n'];
+    let line = &longest[3 - digit_count(v)..];
+    let end = at + line.len();
+    room[at..end].copy_from_slice(line);
+    end
 }
 
 // How many bytes the normal line of a number has.
 pub fn track_size(number: i16) -> usize
     ensures { result ≡ length (write_track (normal_track number)) }
 {
-    let line = digit_count(magnitude(number)) + 1;
+    let line = digit_count(number.unsigned_abs()) + 1;
     if number < 0 { line + 1 } else { line }
 }
 
@@ -259,7 +196,7 @@ pub fn put_track(room: &mut [u8], number: i16) -> usize
     ensures put { room.new ≡ write_track (normal_track number) ++ drop (length (write_track (normal_track number))) room.old }
     ensures next { result ≡ length (write_track (normal_track number)) }
 {
-    let v = magnitude(number);
+    let v = number.unsigned_abs();
     if number < 0 {
         room[0] = b'-';
         return put_digits(room, 1, v);

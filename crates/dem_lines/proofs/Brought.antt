@@ -19,7 +19,7 @@ use Rattle.dem.specs.Answer.{message_at}
 use Rattle.format.proofs.CallLaws.{FoundItem}
 use Rattle.dem.proofs.MessageLaws.{fill-update}
 use Rattle.dem.proofs.SceneLaws.{players, filled_frame}
-use Rattle.wire.specs.Cursors.{placed}
+use Rattle.wire.specs.Reads.{placed}
 use Rattle.wire.specs.declared.Text.{Text}
 use Rattle.dem_types.proofs.ByNumber.{place_of, ByNumber, told, not_among}
 use Rattle.dem_types.specs.declared.Update.{Update}
@@ -28,12 +28,12 @@ use Rattle.dem_types.specs.declared.Message.TheVariants as M
 use Rattle.dem_types.specs.Places.{values_to}
 use Rattle.dem_types.specs.Values.{values_by, values_of, update_values}
 use Rattle.dem_scene.specs.Views.{Numbered, scene_of, filled_by}
-use Rattle.dem_scene.specs.declared.Filled.{Filled}
 use Rattle.dem_scene.specs.declared.Scene.{Scene as Held}
 use Rattle.dem_messages.specs.Replies.{answer_of, reply_of}
-use Rattle.dem_messages.specs.declared.MessageAnswer.{MessageAnswer}
-use Rattle.dem_messages.specs.declared.MessageAnswer.TheVariants.{Found, End, Refused}
-use Rattle.dem_messages.specs.declared.MessageReply.{MessageReply}
+use Rattle.std.specs.Prelude.{Option, None, Some, Result, Ok, Err}
+use Rattle.format.specs.declared.refusal.Refused.{Refused}
+use Rattle.dem_messages.specs.declared.Found.{Found}
+use Rattle.dem_messages.specs.declared.Reply.{Reply as Answered}
 use Rattle.dem_messages.proofs.Messages.{found-reply-at}
 use Rattle.dem_messages.proofs.Writing.{allowed_numbered}
 use Rattle.dem_lines.specs.declared.LineChange.{LineChange}
@@ -71,30 +71,30 @@ refused-lent s bytes at c lines n =
     ap (λ (l : Lent (Answer (Unit {0}))). lent (reply s (refusal 14 0)) l.lines) (not_sixteen c lines (ne_eqb (length lines) 16 n))
     ∙ sym (message-refused s lines bytes at n)
 
-module _ (s : Scene) (bytes : List ℕ) (in_bytes : Bytes bytes) (at : ℕ) (r : MessageReply) (read : reply_of bytes r ≡ message_at s bytes at) where
+module _ (s : Scene) (bytes : List ℕ) (in_bytes : Bytes bytes) (at : ℕ) (r : Answered (Option Found)) (read : reply_of bytes r ≡ message_at s bytes at) where
   -- A message that is found.
-  module _ (m : Message) (f : Filled) (next : ℕ) (was : r.answer ≡ Found m f next) where
+  module _ (f : Found) (was : r.answer ≡ Ok (Some f)) where
     abbrev item : Item Values Values
-    item = record { sent = values_of bytes m; filled = filled_by (values_to bytes next) f; next = next }
+    item = record { sent = values_of bytes f.message; filled = filled_by (values_to bytes f.next) f.filled; next = f.next }
 
     it : FoundItem messages GoodMessage s bytes at (scene_of r.scene) item
-    it = found-reply-at s bytes at in_bytes r m f next read was
+    it = found-reply-at s bytes at in_bytes r f read was
 
-    numbered : Numbered m
-    numbered = allowed_numbered (context_of s) (placed bytes) m it.good.allowed
+    numbered : Numbered f.message
+    numbered = allowed_numbered (context_of s) (placed bytes) f.message it.good.allowed
 
   -- Its number tells an update.
-  numbered_in : (a : MessageAnswer) → r.answer ≡ a → NumberedIn a
-  numbered_in (Found m f next) e = numbered m f next e
-  numbered_in End e = tt
-  numbered_in (Refused n p) e = tt
+  numbered_in : (a : Result (Option Found) Refused) → r.answer ≡ a → NumberedIn a
+  numbered_in (Ok (Some f)) e = numbered f e
+  numbered_in (Ok None) e = tt
+  numbered_in (Err q) e = tt
 
   -- What code says of the lines after an answer is what the answer says of them.
-  left_by_lem : (lines : List PlayerLine) (a : MessageAnswer) → r.answer ≡ a → lines_after (with_lines lines s) (placed bytes) a ≡ left_by s lines (answer_of bytes a)
-  left_by_lem lines (Found m f next) e =
-      ap (λ (v : Values). (apply (with_lines lines s) v).players) (same-fill s lines (values_of bytes m) ∙ sym (it m f next e).filled)
-  left_by_lem lines End e = refl
-  left_by_lem lines (Refused n p) e = refl
+  left_by_lem : (lines : List PlayerLine) (a : Result (Option Found) Refused) → r.answer ≡ a → lines_after (with_lines lines s) (placed bytes) a ≡ left_by s lines (answer_of bytes a)
+  left_by_lem lines (Ok (Some f)) e =
+      ap (λ (v : Values). (apply (with_lines lines s) v).players) (same-fill s lines (values_of bytes f.message) ∙ sym (it f e).filled)
+  left_by_lem lines (Ok None) e = refl
+  left_by_lem lines (Err q) e = refl
 
   -- By the change that the answer brings, and the scene after it with its own lines.
   pub told-lent : length s.players ≡ 16 → (c : LineChange) → Brings c r.answer

@@ -24,13 +24,21 @@ use Rattle.dem_scene.specs.contracts.Scene as SceneType
 use Rattle.dem_scene.proofs.Back.{lines_fixed, scene_fixed}
 use Rattle.dem_messages.specs.Replies.{reply_of}
 use Rattle.dem_messages.specs.Replies.{answer_of as message_answer_of}
-use Rattle.dem_messages.specs.declared.MessageReply.{MessageReply}
-use Rattle.dem_messages.specs.contracts.MessageReply as MessageType
+use denote.RattleType.{RattleType}
+use Rattle.std.specs.Prelude.{Option, Result}
+use Rattle.std.specs.contracts.option.Option as OptionType
+use Rattle.format.specs.declared.refusal.Refused.{Refused}
+use Rattle.dem_messages.specs.declared.Found.{Found}
+use Rattle.dem_messages.specs.declared.Reply.{Reply as Answered}
+use Rattle.dem_messages.specs.contracts.Found as FoundType
+use Rattle.dem_messages.proofs.Answers.{answer_from, answer_back}
+use Rattle.dem_messages.proofs.Determined.{answer_fixed, MessageRow, held_scene, held_answer}
 use Rattle.dem_messages.proofs.FoundBack.{answer_determined}
 use Rattle.dem_lines.specs.Lent.{Lent, lent, answer_of, changed_lines, player_of, change_lent, with_lines, message_lent}
 use Rattle.dem_lines.specs.declared.LineChange.{LineChange}
-use Rattle.dem_lines.specs.declared.LinesAnswer.{LinesAnswer}
-use Rattle.dem_lines.specs.declared.LinesAnswer.TheVariants as L
+
+abbrev R : RattleType
+R = OptionType.the_row FoundType.the_row
 
 -- Lines that code can hold.
 abbrev AllHeld : List PlayerLine → Type 0
@@ -38,19 +46,10 @@ AllHeld = Each (Held LineType.the_row)
 
 -- ---- one change
 
-abbrev answer_from : Answer (Unit {0}) → LinesAnswer
-answer_from (result u) = L.Changed
-answer_from at_end = L.Changed
-answer_from (refusal n p) = L.Refused n p
-
-answer_back : (a : LinesAnswer) → answer_from (answer_of a) ≡ a
-answer_back L.Changed = refl
-answer_back (L.Refused n p) = refl
-
-pub change_fixed : (a b : LinesAnswer) (xs ys : List PlayerLine) → AllHeld xs → AllHeld ys
+pub change_fixed : (a b : Result (Unit {0}) Refused) (xs ys : List PlayerLine) → AllHeld xs → AllHeld ys
     → lent (answer_of a) (map line_of xs) ≡ lent (answer_of b) (map line_of ys) → (a ≡ b) × (xs ≡ ys)
 change_fixed a b xs ys h k e = (
-  sym (answer_back a) ∙ (λ i. answer_from (e i).answer) ∙ answer_back b,
+  answer_fixed answer_of (answer_from (λ (u : Unit {0}). u)) (answer_back (λ (u : Unit {0}). u) (λ u. u) (λ u. refl)) a b (λ i. (e i).answer),
   lines_fixed xs ys h k (λ i. (e i).lines),
 )
 
@@ -68,7 +67,7 @@ change_given c lines = go (eqb (length lines) player_count) (ltb (player_of c) p
     go true false = refl
     go true true = tt
 
-pub lines_given : (c : LineChange) (a : LinesAnswer) (xs ys : List PlayerLine) → AllHeld xs → AllHeld ys
+pub lines_given : (c : LineChange) (a : Result (Unit {0}) Refused) (xs ys : List PlayerLine) → AllHeld xs → AllHeld ys
     → lent (answer_of a) (map line_of ys) ≡ change_lent c (map line_of xs) → GivenBack xs ys (answer_of a)
 lines_given c a xs ys h k e =
     given_through (map line_of) xs ys (lines_fixed ys xs k h) (answer_of a)
@@ -79,14 +78,14 @@ lines_given c a xs ys h k e =
 abbrev Told : Type 0
 Told = Lent (Reply Described (Item Values Values))
 
-pub lent_determined : (t : Described) (lines : List Line) (s : List ℕ) (at : ℕ) → Bytes s → (r q : MessageReply) (xs ys : List PlayerLine)
-    → Held MessageType.the_row r → Held MessageType.the_row q → AllHeld xs → AllHeld ys
+pub lent_determined : (t : Described) (lines : List Line) (s : List ℕ) (at : ℕ) → Bytes s → (r q : Answered (Option Found)) (xs ys : List PlayerLine)
+    → Held MessageRow r → Held MessageRow q → AllHeld xs → AllHeld ys
     → lent (reply_of s r) (map line_of xs) ≡ message_lent t lines s at → lent (reply_of s q) (map line_of ys) ≡ message_lent t lines s at → (r ≡ q) × (xs ≡ ys)
 lent_determined t lines s at bytes r q xs ys h k hs ks e f =
     let both = e ∙ sym f in
-    let a = answer_determined (with_lines lines t) s at bytes r.answer q.answer (_, h.1.1.1.0) (_, k.1.1.1.0)
+    let a = answer_determined (with_lines lines t) s at bytes r.answer q.answer (held_answer R r h) (held_answer R q k)
     (λ i. (e i).answer.answer) (λ i. (f i).answer.answer) in
-    let u = scene_fixed r.scene q.scene (_, h.1.1.1.1.0) (_, k.1.1.1.1.0) (λ i. (both i).answer.scene) in
+    let u = scene_fixed r.scene q.scene (held_scene R r h) (held_scene R q k) (λ i. (both i).answer.scene) in
     ((λ i. record { answer = a i; scene = u i }), lines_fixed xs ys hs ks (λ i. (both i).lines))
 
 -- With a refusal and at the end.
@@ -102,13 +101,13 @@ message_given t lines s at = let r = message_at (with_lines lines t) s at in go 
     go at_end u g = (ap (with_lines t.players) g, ap (λ (x : Described). x.players) g)
     go (refusal n p) u g = (ap (with_lines t.players) g, ap (λ (x : Described). x.players) g)
 
-pub lent_given : (scene : Scene) (s : List ℕ) (at : ℕ) (r : MessageReply) (xs ys : List PlayerLine) → Held SceneType.the_row scene
-    → Held MessageType.the_row r → AllHeld xs → AllHeld ys → lent (reply_of s r) (map line_of ys) ≡ message_lent (scene_of scene) (map line_of xs) s at
+pub lent_given : (scene : Scene) (s : List ℕ) (at : ℕ) (r : Answered (Option Found)) (xs ys : List PlayerLine) → Held SceneType.the_row scene
+    → Held MessageRow r → AllHeld xs → AllHeld ys → lent (reply_of s r) (map line_of ys) ≡ message_lent (scene_of scene) (map line_of xs) s at
     → GivenBack scene r.scene (message_answer_of s r.answer) × GivenBack xs ys (message_answer_of s r.answer)
 lent_given scene s at r xs ys h k hs ks e =
     let t = scene_of scene in
     let a = message_answer_of s r.answer in
     let g = subst (Given t (map line_of xs)) (sym e) (message_given t (map line_of xs) s at) in (
-      given_through scene_of scene r.scene (scene_fixed r.scene scene (_, k.1.1.1.1.0) h) a g.0,
+      given_through scene_of scene r.scene (scene_fixed r.scene scene (held_scene R r k) h) a g.0,
       given_through (map line_of) xs ys (lines_fixed ys xs ks hs) a g.1,
     )

@@ -1,17 +1,17 @@
 -- Player lines that a caller lends: what is answered, and what every line holds afterwards.
-use Rattle.std.specs.Prelude.{List, cond, not, ℕ, eqb, ltb, length, replicate}
+use Rattle.std.specs.Prelude.{List, cond, not, ℕ, eqb, ltb, length, replicate, Result}
 use Rattle.std.specs.Int.{w16}
 use Rattle.std.proofs.Common.{of_z}
 use Rattle.dem.specs.Limits.{player_count}
 use Rattle.format.specs.Refusal.{code, wrong_number, wrong_scene}
+use Rattle.format.specs.declared.refusal.Refused.{Refused}
 use Rattle.dem.specs.Scene.{PlayerLine, Scene, zero_line}
 use Rattle.dem.specs.Message.{Message, set_frags, set_colours}
 use Rattle.format.specs.Answer.{Answer, result, refusal, Item, Reply, reply}
 use Rattle.dem.specs.Answer.{message_at}
+use Rattle.dem_messages.specs.Replies.{answer_by}
 use Rattle.dem_lines.specs.declared.LineChange.{LineChange}
 use Rattle.dem_lines.specs.declared.LineChange.TheVariants as C
-use Rattle.dem_lines.specs.declared.LinesAnswer.{LinesAnswer}
-use Rattle.dem_lines.specs.declared.LinesAnswer.TheVariants as L
 
 -- An answer, and the lent lines after it.
 pub record Lent (A : Type 0) : Type 0 where
@@ -21,9 +21,8 @@ pub record Lent (A : Type 0) : Type 0 where
 abbrev pub lent : {A : Type 0} → A → List PlayerLine → Lent A
 lent a lines = record { answer = a; lines = lines }
 
-abbrev pub answer_of : LinesAnswer → Answer (Unit {0})
-answer_of L.Changed = result tt
-answer_of (L.Refused n p) = refusal n p
+abbrev pub answer_of : Result (Unit {0}) Refused → Answer (Unit {0})
+answer_of = answer_by (λ u. u)
 
 -- ---- one change
 

@@ -10,15 +10,16 @@ ghost use Rattle.dem_scene.specs.Views.{line_of, scene_of, Numbered};
 ghost use Rattle.dem_messages.specs.Replies.{reply_of};
 ghost use Rattle.dem_lines.specs.declared.LineChange.{LineChange};
 ghost use Rattle.dem_lines.specs.Lent.{lent, answer_of, changed_lines, change_lent, with_lines, message_lent};
-ghost use Rattle.dem_lines.specs.Turns.{refused_plan, line_plan, plan_of, changed_line, Brings};
+ghost use Rattle.dem_lines.specs.Turns.{line_plan, plan_of, changed_line, Brings};
 
 use dem::limit::PLAYER_COUNT;
-use dem_messages::{MessageAnswer, MessageReply};
+use dem_messages::{Found, Reply};
 use dem_scene::{PlayerLine, Scene};
 use dem_types::{Message, Player};
-use format::refusal::{WRONG_NUMBER, WRONG_SCENE};
+use format::refusal::{Refusal, Refused};
 
-// What is done to the lines. Clearing is what serverinfo does to them.
+// What is done to the lines. Clearing is what serverinfo does to them. `Nothing` and no `Option` of the others: what may not change, callers and
+// the definitions of `Lent` name it.
 #[derive(Clone, Copy)]
 pub enum LineChange {
     Nothing,
@@ -27,66 +28,47 @@ pub enum LineChange {
     Clear,
 }
 
-// With a refusal, its number and place, every line is as it was.
-#[derive(Clone, Copy)]
-pub enum LinesAnswer {
-    Changed,
-    Refused(u8, usize),
-}
-
-// An answer, and the lines that change: from `first` up to `end`.
+// The lines that change: from `first` up to `end`.
 #[derive(Clone, Copy)]
 pub struct Plan {
-    pub answer: LinesAnswer,
     pub first: usize,
     pub end: usize,
 }
 
-fn refused(refusal: u8) -> Plan
-    ensures { result ≡ refused_plan refusal }
-{
-    Plan {
-        answer: LinesAnswer::Refused(refusal, 0),
-        first: 0,
-        end: 0,
-    }
-}
-
-fn one_line(player: Player) -> Plan
+fn one_line(player: Player) -> Result<Plan, Refused>
     ensures { result ≡ line_plan player.0 }
 {
-    let first = player.0 as usize;
+    let first = usize::from(player.0);
     if first < PLAYER_COUNT {
-        return Plan {
-            answer: LinesAnswer::Changed,
+        return Ok(Plan {
             first,
             end: first + 1,
-        };
+        });
     }
-    refused(WRONG_NUMBER)
+    Err(Refused {
+        refusal: Refusal::WrongNumber,
+        place: 0,
+    })
 }
 
 // What a change is answered where so many lines are lent. This and `changed_line` are what `change_lines` is made of, for callers that keep
 // the lines by value.
-pub fn plan_of(count: usize, change: LineChange) -> Plan
+pub fn plan_of(count: usize, change: LineChange) -> Result<Plan, Refused>
     ensures { result ≡ plan_of count change }
 {
     if count != PLAYER_COUNT {
-        return refused(WRONG_SCENE);
+        return Err(Refused {
+            refusal: Refusal::WrongScene,
+            place: 0,
+        });
     }
     match change {
-        LineChange::Nothing => Plan {
-            answer: LinesAnswer::Changed,
-            first: 0,
-            end: 0,
-        },
-        LineChange::Frags(player, _) => one_line(player),
-        LineChange::Colours(player, _) => one_line(player),
-        LineChange::Clear => Plan {
-            answer: LinesAnswer::Changed,
+        LineChange::Nothing => Ok(Plan { first: 0, end: 0 }),
+        LineChange::Frags(player, _) | LineChange::Colours(player, _) => one_line(player),
+        LineChange::Clear => Ok(Plan {
             first: 0,
             end: PLAYER_COUNT,
-        },
+        }),
     }
 }
 
@@ -96,33 +78,22 @@ pub fn changed_line(line: PlayerLine, change: LineChange) -> PlayerLine
 {
     match change {
         LineChange::Nothing => line,
-        LineChange::Frags(_, frags) => PlayerLine {
-            frags,
-            colours: line.colours,
-        },
-        LineChange::Colours(_, colours) => PlayerLine {
-            frags: line.frags,
-            colours,
-        },
-        LineChange::Clear => PlayerLine {
-            frags: 0,
-            colours: 0,
-        },
+        LineChange::Frags(_, frags) => PlayerLine { frags, ..line },
+        LineChange::Colours(_, colours) => PlayerLine { colours, ..line },
+        LineChange::Clear => PlayerLine::CLEARED,
     }
 }
 
-// One change of the lines that are lent.
-pub fn change_lines(lines: &mut [PlayerLine], change: LineChange) -> LinesAnswer
+// One change of the lines that are lent. With a refusal, every line is as it was.
+#[tactic(auto, using(crate::proofs::Turning::refused_comes))]
+pub fn change_lines(lines: &mut [PlayerLine], change: LineChange) -> Result<(), Refused>
     ensures { lent (answer_of result) (map line_of lines.new) ≡ change_lent change (map line_of lines.old) }
 {
-    let plan = plan_of(lines.len(), change);
-    let end = plan.end;
-    let mut i = plan.first;
-    while i < end {
-        lines[i] = changed_line(lines[i], change);
-        i = i + 1;
+    let plan = plan_of(lines.len(), change)?;
+    for line in &mut lines[plan.first..plan.end] {
+        *line = changed_line(*line, change);
     }
-    plan.answer
+    Ok(())
 }
 
 // ---- a message with the lines lent
@@ -139,14 +110,12 @@ fn change_of(message: Message) -> LineChange
 }
 
 // A refusal, and the end, bring none.
-fn change_by(reply: MessageReply) -> LineChange
-    ensures { Brings result reply.answer }
+fn change_by(reply: &Reply<Option<Found>>) -> LineChange
+    ensures { Brings result reply.now.answer }
 {
-    let answer = reply.answer;
-    match answer {
-        MessageAnswer::Found(message, _, _) => change_of(message),
-        MessageAnswer::End => LineChange::Nothing,
-        MessageAnswer::Refused(_, _) => LineChange::Nothing,
+    match reply.answer {
+        Ok(Some(found)) => change_of(found.message),
+        Ok(None) | Err(_) => LineChange::Nothing,
     }
 }
 
@@ -154,30 +123,28 @@ fn with_lines(scene: Scene, lines: [PlayerLine; PLAYER_COUNT]) -> Scene
     ensures { scene_of result ≡ with_lines (map line_of lines) (scene_of scene) }
 {
     let mut changed = scene;
-    let mut rest = scene.rest;
-    rest.players = lines;
-    changed.rest = rest;
+    changed.rest.players = lines;
     changed
 }
 
 // The reply where so many lines are lent. The scene's own lines are not looked at, and are handed back as they were given.
-fn reply_at(scene: Scene, bytes: &[u8], at: usize, count: usize) -> MessageReply
+fn reply_at(scene: Scene, bytes: &[u8], at: usize, count: usize) -> Reply<Option<Found>>
     ensures { (c : LineChange) → Brings c result.answer → (lines : List Line) → length lines ≡ count → lent (reply_of bytes.now result) (change_lent c lines).lines ≡ message_lent (scene_of scene) lines bytes.now at }
 {
     if count != PLAYER_COUNT {
-        return MessageReply {
-            answer: MessageAnswer::Refused(WRONG_SCENE, 0),
+        let r = Refused {
+            refusal: Refusal::WrongScene,
+            place: 0,
+        };
+        return Reply {
+            answer: Err(r),
             scene,
         };
     }
-    let rest = scene.rest;
-    let own = rest.players;
-    let found = dem_messages::read_message_at(scene, bytes, at);
-    let answer = found.answer;
-    let after = found.scene;
-    MessageReply {
-        answer,
-        scene: with_lines(after, own),
+    let read = dem_messages::read_message_at(scene, bytes, at);
+    Reply {
+        answer: read.answer,
+        scene: with_lines(read.scene, scene.rest.players),
     }
 }
 
@@ -187,11 +154,11 @@ pub fn read_message_lent(
     bytes: &[u8],
     at: usize,
     lines: &mut [PlayerLine],
-) -> MessageReply
+) -> Reply<Option<Found>>
     ensures { lent (reply_of bytes.now result) (map line_of lines.new) ≡ message_lent (scene_of scene) (map line_of lines.old) bytes.now at }
 {
     let reply = reply_at(scene, bytes, at, lines.len());
-    let change = change_by(reply);
-    change_lines(lines, change);
+    // Lines that are not sixteen stay as they are: that is told by the reply.
+    let _ = change_lines(lines, change_by(&reply));
     reply
 }

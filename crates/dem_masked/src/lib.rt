@@ -1,337 +1,276 @@
 // Readers of the messages with a mask, as sent, from behind their number on. A field that the mask leaves out is 0.
 #![tactic(auto)]
 
-ghost use Rattle.std.specs.Prelude.{◌≡◌, [], ◌∷◌, ◌<◌};
-ghost use Rattle.std.proofs.Common.{of_z};
-ghost use Rattle.std.specs.Int.{w8, w16};
-ghost use Rattle.format.specs.Bytes.{bit};
-ghost use Rattle.format.specs.Layout.{number, put};
-ghost use Rattle.dem.specs.Message.{update_layout};
+ghost use Rattle.std.specs.Prelude.{◌≡◌, ◌∷◌, cond, ℕ, ◌+◌, ◌*◌, ◌<◌, drop};
+ghost use Rattle.format.specs.Bytes.{read_number, bit};
+ghost use Rattle.format.specs.Layout.{number, put, parse};
+ghost use Rattle.dem.specs.Kind;
+ghost use Rattle.dem.specs.Message.{update_layout, sound_rule, client_rule, high_bit, high_rule};
 ghost use Rattle.dem.specs.Scene.{Context as Numbers};
-ghost use Rattle.wire.specs.Cursors.{gotten, parse_at};
-ghost use Rattle.dem_types.specs.Values.{sound_values, client_values, motion_values, arms_values, supplies_values, look_values, pose_values, update_values};
-ghost use Rattle.dem_parts.specs.Kinds.{context_of, gotten_message, kind_at};
-ghost use Rattle.dem_masked.specs.Slots.{slot_at, motion_layout, arms_layout, supplies_layout, high_at, entity_in, look_layout, pose_layout};
+ghost use Rattle.wire.specs.Reads.{read_of};
+ghost use Rattle.dem_types.specs.declared.Entity.{Entity};
+ghost use Rattle.dem_types.specs.declared.Sound.{Sound};
+ghost use Rattle.dem_types.specs.declared.Clientdata.{Clientdata};
+ghost use Rattle.dem_types.specs.Values.{sound_values, client_values, motion_values, arms_values, supplies_values};
+ghost use Rattle.dem_types.specs.Values.{look_values, pose_values, update_values};
+ghost use Rattle.dem_parts.specs.Kinds.{message_of, kind_in};
+ghost use Rattle.dem_masked.specs.Slots.{slot_in, motion_layout, arms_layout, supplies_layout, entity_in, look_layout, pose_layout};
 
 use dem::{clientdata, sound, update};
-use dem_parts::{Context, LookAt, MessageAt, PoseAt};
+use dem_parts::{read_source, read_vector, require};
 use dem_types::{Arms, Clientdata, Entity, Look, Message, Motion, Pose, Sound, Supplies, Update};
-use format::refusal::RESERVED_BIT;
-use wire::{Byte, Char, Cursor, Short, Word};
+use format::refusal::Refusal;
+use wire::{Number, Read, has, read, read_if};
 
-// ---- a field behind a bit of a mask
-
-// A byte of mask bits.
-fn wide(mask: u8) -> u16
-    ensures { result ≡ mask }
-{
-    mask as u16
-}
-
-// A field that is sent where bit k is set, or else 0, at three types.
-fn byte_behind(s: &[u8], c: Cursor, mask: u16, k: u16) -> Byte
+// A field that is sent where bit k of the mask is set, or else 0.
+#[tactic(auto, unfolding(crate::specs::Slots::slot_in))]
+fn read_behind<T: Number>(s: &[u8], at: usize, mask: u16, k: u16) -> Read<T>
     requires { k < 16 }
-    ensures { gotten s.now result.value result.cursor ≡ slot_at s.now c mask k 1 }
+    ensures { read_of T.bits s.now result ≡ slot_in mask k T.WIDTH (drop at s.now) }
 {
-    wire::read_byte_if(s, c, wire::has(mask, k))
-}
-
-fn char_behind(s: &[u8], c: Cursor, mask: u16, k: u16) -> Char
-    requires { k < 16 }
-    ensures { gotten s.now (of_z w8 result.value) result.cursor ≡ slot_at s.now c mask k 1 }
-{
-    wire::read_char_if(s, c, wire::has(mask, k))
-}
-
-fn short_behind(s: &[u8], c: Cursor, mask: u16, k: u16) -> Short
-    requires { k < 16 }
-    ensures { gotten s.now (of_z w16 result.value) result.cursor ≡ slot_at s.now c mask k 2 }
-{
-    wire::read_short_if(s, c, wire::has(mask, k))
+    read_if(s, at, has(mask, k))
 }
 
 // ---- sound
 
-#[derive(Clone, Copy)]
-pub struct SoundAt {
-    pub heard: Sound,
-    pub cursor: Cursor,
+// The other bits of the mask are reserved.
+#[tactic(auto, using(crate::proofs::Parts::sound_ruled), unfolding(format::specs::Bytes::read_number))]
+fn read_sound_mask(s: &[u8], at: usize) -> Read<u8>
+    ensures { read_of (λ (m : ℕ). m) s.now result ≡ read_number 1 sound_rule (drop at s.now) }
+{
+    let (mask, next) = read(s, at)?;
+    require(mask < sound::MASK_BOUND, Refusal::ReservedBit, at)?;
+    Ok((mask, next))
 }
 
-// The other bits of the mask are reserved.
-pub fn sound_at(s: &[u8], c: Cursor) -> SoundAt
-    ensures { (x : Numbers) → gotten s.now (number 6 ∷ sound_values result.heard) result.cursor ≡ kind_at s.now c x 6 }
+// Not put into its caller: the loop over updates there then keeps its place in memory, and reading takes 4 to 8 % more.
+#[tactic(auto, using(crate::proofs::Parts::sound_parts))]
+#[inline(never)]
+pub fn sound_at(s: &[u8], at: usize) -> Read<Sound>
+    ensures { (x : Numbers) → read_of (λ (v : Sound). number Kind.sound ∷ sound_values v) s.now result
+        ≡ kind_in x Kind.sound (drop at s.now) }
 {
-    let m = wire::read_byte(s, c);
-    let mask = m.value;
-    let ruled = wire::refuse_if(m.cursor, c.at, sound::MASK_BOUND <= mask, RESERVED_BIT);
-    let bits = wide(mask);
-    let volume = byte_behind(s, ruled, bits, sound::VOLUME);
-    let attenuation = byte_behind(s, volume.cursor, bits, sound::ATTENUATION);
-    let source = dem_parts::read_source(s, attenuation.cursor);
-    let sound = wire::read_byte(s, source.cursor);
-    let origin = dem_parts::read_vector(s, sound.cursor);
-    let entity = source.entity;
-    let at = origin.vector;
-    let cursor = origin.cursor;
+    let (mask, at) = read_sound_mask(s, at)?;
+    let bits = u16::from(mask);
+    let (volume, at) = read_behind(s, at, bits, sound::VOLUME)?;
+    let (attenuation, at) = read_behind(s, at, bits, sound::ATTENUATION)?;
+    let (source, at) = read_source(s, at)?;
+    let (sound, at) = read(s, at)?;
+    let (origin, at) = read_vector(s, at)?;
     let heard = Sound {
         mask,
-        volume: volume.value,
-        attenuation: attenuation.value,
+        volume,
+        attenuation,
         channel: source.channel,
-        entity,
-        sound: sound.value,
-        origin: at,
+        entity: source.entity,
+        sound,
+        origin,
     };
-    SoundAt { heard, cursor }
+    Ok((heard, at))
 }
 
-pub fn read_sound(s: &[u8], c: Cursor, x: Context) -> MessageAt
-    ensures { gotten_message s.now result ≡ kind_at s.now c (context_of x) 6 }
+pub fn read_sound(s: &[u8], at: usize) -> Read<Message>
+    ensures { (x : Numbers) → message_of s.now result ≡ kind_in x Kind.sound (drop at s.now) }
 {
-    let t = sound_at(s, c);
-    let heard = t.heard;
-    let cursor = t.cursor;
-    MessageAt {
-        message: Message::Sound(heard),
-        cursor,
-    }
+    let (heard, at) = sound_at(s, at)?;
+    Ok((Message::Sound(heard), at))
 }
 
 // ---- clientdata
 
-#[derive(Drop)]
-struct MotionAt {
-    motion: Motion,
-    cursor: Cursor,
-}
-
-#[derive(Drop)]
-struct ArmsAt {
-    arms: Arms,
-    cursor: Cursor,
-}
-
-#[derive(Drop)]
-struct SuppliesAt {
-    supplies: Supplies,
-    cursor: Cursor,
-}
-
 // For each axis in turn: punch, then velocity.
-fn read_motion(s: &[u8], c: Cursor, mask: u16) -> MotionAt
-    ensures { gotten s.now (motion_values result.motion) result.cursor ≡ parse_at s.now c (motion_layout mask) }
+#[tactic(auto, unfolding(format::specs::Layout::parse, crate::specs::Slots::slot_in))]
+fn read_motion(s: &[u8], at: usize, mask: u16) -> Read<Motion>
+    ensures { read_of motion_values s.now result ≡ parse (motion_layout mask) (drop at s.now) }
 {
-    let h = char_behind(s, c, mask, clientdata::VIEW_HEIGHT);
-    let p = char_behind(s, h.cursor, mask, clientdata::PITCH);
-    let p0 = char_behind(s, p.cursor, mask, clientdata::PUNCH0);
-    let v0 = char_behind(s, p0.cursor, mask, clientdata::VELOCITY0);
-    let p1 = char_behind(s, v0.cursor, mask, clientdata::PUNCH1);
-    let v1 = char_behind(s, p1.cursor, mask, clientdata::VELOCITY1);
-    let p2 = char_behind(s, v1.cursor, mask, clientdata::PUNCH2);
-    let v2 = char_behind(s, p2.cursor, mask, clientdata::VELOCITY2);
+    let (view_height, at) = read_behind(s, at, mask, clientdata::VIEW_HEIGHT)?;
+    let (pitch, at) = read_behind(s, at, mask, clientdata::PITCH)?;
+    let (punch0, at) = read_behind(s, at, mask, clientdata::PUNCH0)?;
+    let (velocity0, at) = read_behind(s, at, mask, clientdata::VELOCITY0)?;
+    let (punch1, at) = read_behind(s, at, mask, clientdata::PUNCH1)?;
+    let (velocity1, at) = read_behind(s, at, mask, clientdata::VELOCITY1)?;
+    let (punch2, at) = read_behind(s, at, mask, clientdata::PUNCH2)?;
+    let (velocity2, at) = read_behind(s, at, mask, clientdata::VELOCITY2)?;
     let motion = Motion {
-        view_height: h.value,
-        pitch: p.value,
-        punch0: p0.value,
-        velocity0: v0.value,
-        punch1: p1.value,
-        velocity1: v1.value,
-        punch2: p2.value,
-        velocity2: v2.value,
+        view_height,
+        pitch,
+        punch0,
+        velocity0,
+        punch1,
+        velocity1,
+        punch2,
+        velocity2,
     };
-    let cursor = v2.cursor;
-    MotionAt { motion, cursor }
+    Ok((motion, at))
 }
 
-fn read_arms(s: &[u8], c: Cursor, mask: u16) -> ArmsAt
-    ensures { gotten s.now (arms_values result.arms) result.cursor ≡ parse_at s.now c (arms_layout mask) }
+#[tactic(auto, unfolding(format::specs::Layout::parse, crate::specs::Slots::slot_in))]
+fn read_arms(s: &[u8], at: usize, mask: u16) -> Read<Arms>
+    ensures { read_of arms_values s.now result ≡ parse (arms_layout mask) (drop at s.now) }
 {
-    let f = byte_behind(s, c, mask, clientdata::WEAPON_FRAME);
-    let a = byte_behind(s, f.cursor, mask, clientdata::ARMOUR);
-    let m = byte_behind(s, a.cursor, mask, clientdata::WEAPON_MODEL);
+    let (weapon_frame, at) = read_behind(s, at, mask, clientdata::WEAPON_FRAME)?;
+    let (armour, at) = read_behind(s, at, mask, clientdata::ARMOUR)?;
+    let (weapon_model, at) = read_behind(s, at, mask, clientdata::WEAPON_MODEL)?;
     let arms = Arms {
-        weapon_frame: f.value,
-        armour: a.value,
-        weapon_model: m.value,
+        weapon_frame,
+        armour,
+        weapon_model,
     };
-    let cursor = m.cursor;
-    ArmsAt { arms, cursor }
+    Ok((arms, at))
 }
 
-fn read_supplies(s: &[u8], c: Cursor) -> SuppliesAt
-    ensures { gotten s.now (supplies_values result.supplies) result.cursor ≡ parse_at s.now c supplies_layout }
+#[tactic(auto, unfolding(format::specs::Layout::parse))]
+fn read_supplies(s: &[u8], at: usize) -> Read<Supplies>
+    ensures { read_of supplies_values s.now result ≡ parse supplies_layout (drop at s.now) }
 {
-    let h = wire::read_short(s, c);
-    let a = wire::read_byte(s, h.cursor);
-    let n0 = wire::read_byte(s, a.cursor);
-    let n1 = wire::read_byte(s, n0.cursor);
-    let n2 = wire::read_byte(s, n1.cursor);
-    let n3 = wire::read_byte(s, n2.cursor);
-    let w = wire::read_byte(s, n3.cursor);
+    let (health, at) = read(s, at)?;
+    let (ammo, at) = read(s, at)?;
+    let (count0, at) = read(s, at)?;
+    let (count1, at) = read(s, at)?;
+    let (count2, at) = read(s, at)?;
+    let (count3, at) = read(s, at)?;
+    let (weapon, at) = read(s, at)?;
     let supplies = Supplies {
-        health: h.value,
-        ammo: a.value,
-        count0: n0.value,
-        count1: n1.value,
-        count2: n2.value,
-        count3: n3.value,
-        weapon: w.value,
+        health,
+        ammo,
+        count0,
+        count1,
+        count2,
+        count3,
+        weapon,
     };
-    let cursor = w.cursor;
-    SuppliesAt { supplies, cursor }
+    Ok((supplies, at))
 }
 
-#[derive(Clone, Copy)]
-pub struct ClientdataAt {
-    pub data: Clientdata,
-    pub cursor: Cursor,
-}
-
-// Two bits are reserved. Items are sent whatever their bit says.
-pub fn clientdata_at(s: &[u8], c: Cursor) -> ClientdataAt
-    ensures { (x : Numbers) → gotten s.now (number 15 ∷ client_values result.data) result.cursor ≡ kind_at s.now c x 15 }
+// Two bits are reserved.
+#[tactic(auto, unfolding(format::specs::Bytes::read_number))]
+fn read_client_mask(s: &[u8], at: usize) -> Read<u16>
+    ensures { read_of (λ (m : ℕ). m) s.now result ≡ read_number 2 client_rule (drop at s.now) }
 {
-    let m = wire::read_word(s, c);
-    let mask = m.value;
-    let half = wire::refuse_if(
-        m.cursor,
-        c.at,
-        wire::has(mask, clientdata::RESERVED_LOW),
-        RESERVED_BIT,
-    );
-    let ruled = wire::refuse_if(
-        half,
-        c.at,
-        wire::has(mask, clientdata::RESERVED_HIGH),
-        RESERVED_BIT,
-    );
-    let first = read_motion(s, ruled, mask);
-    let items = wire::read_long(s, first.cursor);
-    let then = read_arms(s, items.cursor, mask);
-    let last = read_supplies(s, then.cursor);
-    let motion = first.motion;
-    let arms = then.arms;
-    let supplies = last.supplies;
-    let cursor = last.cursor;
+    let (mask, next) = read(s, at)?;
+    let is_met = !has(mask, clientdata::RESERVED_LOW) && !has(mask, clientdata::RESERVED_HIGH);
+    require(is_met, Refusal::ReservedBit, at)?;
+    Ok((mask, next))
+}
+
+// Items are sent whatever their bit says.
+#[tactic(auto, using(crate::proofs::Parts::client_parts))]
+pub fn clientdata_at(s: &[u8], at: usize) -> Read<Clientdata>
+    ensures { (x : Numbers) → read_of (λ (v : Clientdata). number Kind.clientdata ∷ client_values v) s.now result
+        ≡ kind_in x Kind.clientdata (drop at s.now) }
+{
+    let (mask, at) = read_client_mask(s, at)?;
+    let (motion, at) = read_motion(s, at, mask)?;
+    let (items, at) = read(s, at)?;
+    let (arms, at) = read_arms(s, at, mask)?;
+    let (supplies, at) = read_supplies(s, at)?;
     let data = Clientdata {
         mask,
         motion,
-        items: items.value,
+        items,
         arms,
         supplies,
     };
-    ClientdataAt { data, cursor }
+    Ok((data, at))
 }
 
-pub fn read_clientdata(s: &[u8], c: Cursor, x: Context) -> MessageAt
-    ensures { gotten_message s.now result ≡ kind_at s.now c (context_of x) 15 }
+pub fn read_clientdata(s: &[u8], at: usize) -> Read<Message>
+    ensures { (x : Numbers) → message_of s.now result ≡ kind_in x Kind.clientdata (drop at s.now) }
 {
-    let d = clientdata_at(s, c);
-    let data = d.data;
-    let cursor = d.cursor;
-    MessageAt {
-        message: Message::Clientdata(data),
-        cursor,
-    }
+    let (data, at) = clientdata_at(s, at)?;
+    Ok((Message::Clientdata(data), at))
 }
 
 // ---- update
 
-#[derive(Clone, Copy)]
-pub struct UpdateAt {
-    pub update: Update,
-    pub cursor: Cursor,
-}
-
 // Mask bits 8 to 15, which one of the number brings. The last is reserved.
-fn read_high(s: &[u8], c: Cursor, low: u8) -> Byte
-    ensures { gotten s.now result.value result.cursor ≡ high_at s.now c low }
+#[tactic(auto, unfolding(crate::specs::Slots::slot_in, format::specs::Bytes::read_number))]
+fn read_high(s: &[u8], at: usize, low: u8) -> Read<u8>
+    ensures { read_of (λ (n : ℕ). n) s.now result ≡ read_number (cond (bit low high_bit) 1 0) high_rule (drop at s.now) }
 {
-    let h = byte_behind(s, c, wide(low), update::HIGH);
-    let value = h.value;
-    let cursor = wire::refuse_if(
-        h.cursor,
-        c.at,
-        wire::has(wide(value), update::RESERVED_IN_HIGH),
-        RESERVED_BIT,
-    );
-    Byte { value, cursor }
+    let (high, next) = read_behind::<u8>(s, at, u16::from(low), update::HIGH)?;
+    let is_met = !has(u16::from(high), update::RESERVED_IN_HIGH);
+    require(is_met, Refusal::ReservedBit, at)?;
+    Ok((high, next))
 }
 
 // Document 01's E, or a byte, which never breaks its rule.
-fn read_entity(s: &[u8], c: Cursor, two: bool) -> Word
-    ensures { gotten s.now result.value result.cursor ≡ entity_in s.now c two }
+#[tactic(auto, unfolding(crate::specs::Slots::entity_in, format::specs::Bytes::read_number))]
+fn read_entity(s: &[u8], at: usize, two: bool) -> Read<Entity>
+    ensures { read_of (λ (e : Entity). e.0) s.now result ≡ entity_in two (drop at s.now) }
 {
     if two {
-        return dem_parts::read_entity(s, c);
+        return dem_parts::read_entity(s, at);
     }
-    let b = wire::read_byte(s, c);
-    let value = wide(b.value);
-    let cursor = b.cursor;
-    Word { value, cursor }
+    let (number, at) = read::<u8>(s, at)?;
+    Ok((Entity(u16::from(number)), at))
 }
 
-fn read_look(s: &[u8], c: Cursor, mask: u16) -> LookAt
-    ensures { gotten s.now (look_values result.look) result.cursor ≡ parse_at s.now c (look_layout mask) }
+#[tactic(auto, unfolding(format::specs::Layout::parse, crate::specs::Slots::slot_in))]
+// As `dem_parts` reads a look and a pose, but behind a mask: one reader given the way to read a field would be no plainer, since each has a
+// layout of its own.
+fn read_look(s: &[u8], at: usize, mask: u16) -> Read<Look>
+    ensures { read_of look_values s.now result ≡ parse (look_layout mask) (drop at s.now) }
 {
-    let m = byte_behind(s, c, mask, update::MODEL);
-    let f = byte_behind(s, m.cursor, mask, update::FRAME);
-    let o = byte_behind(s, f.cursor, mask, update::COLORMAP);
-    let k = byte_behind(s, o.cursor, mask, update::SKIN);
+    let (model, at) = read_behind(s, at, mask, update::MODEL)?;
+    let (frame, at) = read_behind(s, at, mask, update::FRAME)?;
+    let (colormap, at) = read_behind(s, at, mask, update::COLORMAP)?;
+    let (skin, at) = read_behind(s, at, mask, update::SKIN)?;
     let look = Look {
-        model: m.value,
-        frame: f.value,
-        colormap: o.value,
-        skin: k.value,
+        model,
+        frame,
+        colormap,
+        skin,
     };
-    let cursor = k.cursor;
-    LookAt { look, cursor }
+    Ok((look, at))
 }
 
-fn read_pose(s: &[u8], c: Cursor, mask: u16) -> PoseAt
-    ensures { gotten s.now (pose_values result.pose) result.cursor ≡ parse_at s.now c (pose_layout mask) }
+#[tactic(auto, unfolding(format::specs::Layout::parse, crate::specs::Slots::slot_in))]
+fn read_pose(s: &[u8], at: usize, mask: u16) -> Read<Pose>
+    ensures { read_of pose_values s.now result ≡ parse (pose_layout mask) (drop at s.now) }
 {
-    let x = short_behind(s, c, mask, update::X);
-    let a = char_behind(s, x.cursor, mask, update::ANGLE0);
-    let y = short_behind(s, a.cursor, mask, update::Y);
-    let b = char_behind(s, y.cursor, mask, update::ANGLE1);
-    let z = short_behind(s, b.cursor, mask, update::Z);
-    let d = char_behind(s, z.cursor, mask, update::ANGLE2);
+    let (x, at) = read_behind(s, at, mask, update::X)?;
+    let (angle0, at) = read_behind(s, at, mask, update::ANGLE0)?;
+    let (y, at) = read_behind(s, at, mask, update::Y)?;
+    let (angle1, at) = read_behind(s, at, mask, update::ANGLE1)?;
+    let (z, at) = read_behind(s, at, mask, update::Z)?;
+    let (angle2, at) = read_behind(s, at, mask, update::ANGLE2)?;
     let pose = Pose {
-        x: x.value,
-        angle0: a.value,
-        y: y.value,
-        angle1: b.value,
-        z: z.value,
-        angle2: d.value,
+        x,
+        angle0,
+        y,
+        angle1,
+        z,
+        angle2,
     };
-    let cursor = d.cursor;
-    PoseAt { pose, cursor }
+    Ok((pose, at))
+}
+
+// Mask bits 0 to 6, and those from 8 on.
+fn whole_mask(low: u8, high: u8) -> u16
+    ensures { result ≡ high * 256 + low }
+{
+    u16::from_le_bytes([low, high])
 }
 
 // The update whose number is `low`: mask bits 0 to 6.
-pub fn read_update(s: &[u8], c: Cursor, low: u8) -> UpdateAt
-    ensures { gotten s.now (update_values result.update) result.cursor ≡ put (number low) (parse_at s.now c (update_layout low)) }
+#[tactic(auto, using(crate::proofs::Parts::update_parts))]
+pub fn read_update(s: &[u8], at: usize, low: u8) -> Read<Update>
+    ensures { read_of update_values s.now result ≡ put (number low) (parse (update_layout low) (drop at s.now)) }
 {
-    let h = read_high(s, c, low);
-    let high = h.value;
-    let mask = wide(high) * 256 + wide(low);
-    let n = read_entity(s, h.cursor, wire::has(mask, update::WIDE));
-    let l = read_look(s, n.cursor, mask);
-    let e = byte_behind(s, l.cursor, mask, update::EFFECTS);
-    let p = read_pose(s, e.cursor, mask);
-    let entity = Entity(n.value);
-    let look = l.look;
-    let pose = p.pose;
-    let cursor = p.cursor;
+    let (high, at) = read_high(s, at, low)?;
+    let mask = whole_mask(low, high);
+    let (entity, at) = read_entity(s, at, has(mask, update::WIDE))?;
+    let (look, at) = read_look(s, at, mask)?;
+    let (effects, at) = read_behind(s, at, mask, update::EFFECTS)?;
+    let (pose, at) = read_pose(s, at, mask)?;
     let update = Update {
         number: low,
         high,
         entity,
         look,
-        effects: e.value,
+        effects,
         pose,
     };
-    UpdateAt { update, cursor }
+    Ok((update, at))
 }

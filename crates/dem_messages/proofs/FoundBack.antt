@@ -7,6 +7,7 @@ use mathlib.Core.List.{List, []}
 use mathlib.Core.Bool.{true}
 use Prim.Native.Nat.{ℕ}
 use lib.ListN.{drop}
+use denote.RattleType.{RattleType}
 use denote.Enum.Laws.{owed}
 use Rattle.format.specs.Bytes.{Bytes, found}
 use Rattle.format.specs.Layout.{allows}
@@ -14,12 +15,12 @@ use Rattle.dem.specs.Scene.{Scene as Described, context_of}
 use Rattle.dem.specs.Message.{Message as Values, layout_in, fill}
 use Rattle.dem.specs.Recording.{messages}
 use Rattle.dem.specs.WellFormed.{GoodMessage}
-use Rattle.format.specs.Answer.{Answer, result, at_end, refusal, reply, Item}
+use Rattle.format.specs.Answer.{result, reply, Item}
 use Rattle.dem.specs.Answer.{message_at}
 use Rattle.format.proofs.LayoutLaws.{allows→}
 use Rattle.format.proofs.CallLaws.{FoundItem, found-told}
 use Rattle.dem.proofs.BlockLaws.{message_lawful}
-use Rattle.wire.specs.Cursors.{placed}
+use Rattle.wire.specs.Reads.{placed}
 use Rattle.wire.proofs.FieldLaws.{Held}
 use Rattle.dem_types.specs.declared.Message.{Message}
 use Rattle.dem_types.specs.Values.{values_of}
@@ -33,23 +34,39 @@ use Rattle.dem_scene.specs.Views.{filled_by}
 use Rattle.dem_scene.specs.contracts.Filled as FilledType
 use Rattle.dem_scene.proofs.Filled.TheLaws as FilledLaws
 use Rattle.dem_scene.proofs.FilledBack.{plain-sent, fill-some, filled_from, ReadPlain, filled_back}
-use Rattle.dem_reader.proofs.Readings.{message-some}
-use Rattle.dem_messages.specs.Replies.{answer_of}
-use Rattle.dem_messages.specs.declared.MessageAnswer.{MessageAnswer}
-use Rattle.dem_messages.specs.declared.MessageAnswer.TheVariants.{Found, End, Refused}
-use Rattle.dem_messages.specs.contracts.MessageAnswer as AnswerType
-use Rattle.dem_messages.proofs.MessageAnswer.TheLaws as AnswerLaws
+use Rattle.std.specs.Prelude.{Option, None, Some, Result, Ok, Err}
+use Rattle.std.specs.contracts.option.Option as OptionType
+use Rattle.std.specs.contracts.result.Result as ResultType
+use Rattle.format.specs.declared.refusal.Refused.{Refused}
+use Rattle.format.specs.contracts.refusal.Refused as RefusedType
+use Rattle.format.proofs.RefusalsBack.{refused_back}
+use Rattle.dem_messages.specs.Replies.{item_of, answer_of}
+use Rattle.dem_messages.specs.declared.Found.{Found}
+use Rattle.dem_messages.specs.contracts.Found as FoundType
+use Rattle.dem_messages.proofs.Answers.{item_from, held_ok, held_some}
+use Rattle.dem_messages.proofs.Messages.{message-some}
 use Rattle.dem_messages.proofs.Writing.{allowed_numbered}
 
-abbrev answer_from : Answer (Item Values Values) → MessageAnswer
-answer_from (result i) = Found (message_from i.next i.sent) (filled_from i.next i.filled) i.next
-answer_from at_end = End
-answer_from (refusal n p) = Refused n p
+-- The row of an answer for a message.
+abbrev pub Row : RattleType
+Row = ResultType.the_row (OptionType.the_row FoundType.the_row) RefusedType.the_row
+
+abbrev found_from : Item Values Values → Found
+found_from i = record { message = message_from i.next i.sent; filled = filled_from i.next i.filled; next = i.next }
 
 module _ (t : Described) (s : List ℕ) (at : ℕ) (bytes : Bytes s) where
-  module _ (m : Message) (f : Filled) (next : ℕ) (e : answer_of s (Found m f next) ≡ (message_at t s at).answer) where
+  module _ (found_there : Found) (e : result (item_of s found_there) ≡ (message_at t s at).answer) where
+    abbrev m : Message
+    m = found_there.message
+
+    abbrev f : Filled
+    f = found_there.filled
+
+    abbrev next : ℕ
+    next = found_there.next
+
     abbrev item : Item Values Values
-    item = record { sent = values_to s next m; filled = filled_by (values_to s next) f; next = next }
+    item = item_of s found_there
 
     it : FoundItem messages GoodMessage t s at (message_at t s at).scene item
     it = found-told messages t s at (message_at t s at).scene GoodMessage message_lawful bytes item (ap (reply (message_at t s at).scene) (sym e))
@@ -79,21 +96,22 @@ module _ (t : Described) (s : List ℕ) (at : ℕ) (bytes : Bytes s) where
     plain (F.Clientdata c) h q = tt
     plain (F.Update i r) h q = tt
 
-    found_back : Held AnswerType.the_row (Found m f next) → answer_from (answer_of s (Found m f next)) ≡ Found m f next
+    found_back : Held FoundType.the_row found_there → found_from (item_of s found_there) ≡ found_there
     found_back h =
-        let fields = owed AnswerType.the_type AnswerLaws.the_laws (Found m f next) h.0 h.1 in
-        let r = read m (_, fields.0) refl in
+        let r = read m (_, h.1.1.1.0) refl in
         let sent = ap (message_from next) (placed_values s next m r.at) ∙ message_back (context_of t) s next it.within m r in
-        let filled = filled_back (context_of t) s next it.within f (_, fields.1.0) (plain f (_, fields.1.0) it.filled)
+        let filled = filled_back (context_of t) s next it.within f (_, h.1.1.1.1.0) (plain f (_, h.1.1.1.1.0) it.filled)
         (λ z. fill-some t (values_to s next m) some (sym it.filled ∙ z)) in
-        λ i. Found (sent i) (filled i) next
+        λ i. record { message = sent i; filled = filled i; next = next }
 
-  answer_back : (a : MessageAnswer) → Held AnswerType.the_row a → answer_of s a ≡ (message_at t s at).answer → answer_from (answer_of s a) ≡ a
-  answer_back (Found m f next) h e = found_back m f next e h
-  answer_back End h e = refl
-  answer_back (Refused n p) h e = refl
+  answer_back : (a : Result (Option Found) Refused) → Held Row a → answer_of s a ≡ (message_at t s at).answer → item_from found_from (answer_of s a) ≡ a
+  answer_back (Ok (Some f)) h e =
+      ap (λ (x : Found). Ok (Some x))
+      (found_back f e (held_some FoundType.the_row f (held_ok (OptionType.the_row FoundType.the_row) (Some f) h)))
+  answer_back (Ok None) h e = refl
+  answer_back (Err r) h e = ap Err (refused_back r)
 
   -- Two answers for the same message are the same.
-  pub answer_determined : (a b : MessageAnswer) → Held AnswerType.the_row a → Held AnswerType.the_row b
+  pub answer_determined : (a b : Result (Option Found) Refused) → Held Row a → Held Row b
       → answer_of s a ≡ (message_at t s at).answer → answer_of s b ≡ (message_at t s at).answer → a ≡ b
-  answer_determined a b h k e f = sym (answer_back a h e) ∙ ap answer_from (e ∙ sym f) ∙ answer_back b k f
+  answer_determined a b h k e f = sym (answer_back a h e) ∙ ap (item_from found_from) (e ∙ sym f) ∙ answer_back b k f

@@ -1,3 +1,4 @@
+pub mod Asked
 pub mod Messages
 pub mod Writing
 pub mod Forms

@@ -12,16 +12,21 @@ use Rattle.format.specs.Layout.{print, allows}
 use Rattle.dem.specs.Scene.{Scene, Context, in_range}
 use Rattle.dem.specs.Message.{Message, layout, layout_in, fill, apply}
 use Rattle.dem.specs.Recording.{write_message}
-use Rattle.format.specs.Answer.{result, refusal, reply, Written, written, write_item}
+use Rattle.format.specs.Answer.{Answer, result, refusal, reply, Written, written, guarded, write_item}
+use Rattle.format.specs.Refusals.{number_of}
+use Rattle.format.specs.declared.refusal.Refused.{Refused}
+use Rattle.std.specs.Prelude.{Err}
 use Rattle.dem.specs.Answer.{write_sent}
 use Rattle.format.proofs.LayoutLaws.{Allowed, allows→}
 use Rattle.wire.specs.declared.Text.{Text}
-use Rattle.wire.specs.Cursors.{text_in, placed}
+use Rattle.wire.specs.Reads.{text_in, placed}
 use Rattle.dem_types.specs.declared.Message.{Message as Sent}
 use Rattle.dem_types.specs.Values.{values_by}
 use Rattle.dem_scene.specs.Views.{Numbered}
 use Rattle.dem.proofs.ShapeLaws.{update_numbered}
 use Rattle.dem_writer.specs.Texts.{TextsOf}
+use Rattle.dem_messages.specs.Steps.{write_step}
+use Rattle.dem_messages.proofs.Asked.{asked-first}
 
 -- ---- what is allowed
 
@@ -64,9 +69,13 @@ module _ (s : Scene) (m : Message) (room : List ℕ) where
   unfolding write_item chosen write_message apply
   chosen_is bad ended wrong short p q r t = rw (p, q, r, t)
 
-  pub write_wrong : in_range s ≡ false → write_sent s m room ≡ written (reply s (refusal 14 0)) room
-  unfolding chosen
-  write_wrong e = chosen_is true s.ended _ _ (ap not e) refl refl refl
+  -- What is refused before the message is looked at; any text has a place 0.
+  pub asked_write : (text : List ℕ) (r : Refused)
+      → ◌≡◌ {A = Answer (Unit {0})} (refusal (number_of r.refusal) r.place) (guarded (in_range s) text 0 refusal (result tt))
+      → written (write_step s m (Err r)) room ≡ write_sent s m room
+  unfolding write_item
+  asked_write text r e =
+      asked-first (in_range s) text (λ n p. written (reply s (refusal n p)) room) _ (number_of r.refusal) r.place e
 
   module _ (r : in_range s ≡ true) where
     pub write-ended : s.ended ≡ true → write_sent s m room ≡ written (reply s (refusal 11 0)) room

@@ -1,12 +1,9 @@
 -- The bytes of clientdata in normal form: number and mask, the fields that differ, then supplies.
 -- Assumes nothing.
 use mathlib.Core.Path.{◌≡◌, refl, sym, ap, ◌∙◌}
-use mathlib.Core.List.{List, [], ◌∷◌, ◌++◌}
+use mathlib.Core.List.{List, ◌∷◌, ◌++◌}
 use mathlib.Core.Bool.{Bool, true, false}
-use Prim.Native.Nat.{ℕ, ◌/◌, ◌%◌}
-use native.Mathlib.Omega.{arith}
-use mir.Val.{of_z}
-use mir.Syntax.{w32}
+use Prim.Native.Nat.{ℕ}
 use Rattle.dem.specs.Kind
 use Rattle.format.specs.Bytes.{le_write, bit, bit_of, from_bits}
 use Rattle.format.specs.Layout.{Value, number, Layout, done, print}
@@ -19,23 +16,11 @@ use Rattle.dem_types.specs.declared.Supplies.{Supplies}
 use Rattle.dem_types.specs.Values.{supplies_values}
 use Rattle.dem_scene.specs.Views.{client_values}
 use Rattle.dem_scene.specs.declared.Client.{Client}
-use Rattle.dem_normal.specs.declared.MotionBits.{MotionBits}
 use Rattle.dem_normal.specs.Put.{Put}
 use Rattle.dem_normal.specs.Sent.{sent_bytes}
-use Rattle.dem_normal.specs.Client.{motion_bits, client_fields, supplies_bytes}
-use Rattle.dem_normal.proofs.PutLaws.{put_same, put_then, second_byte}
+use Rattle.dem_normal.specs.Client.{client_fields, supplies_bytes}
+use Rattle.dem_normal.proofs.PutLaws.{put_same, put_then}
 use Rattle.dem_normal.proofs.UpdateBytes.{slot-bytes}
-
--- Four bytes in two halves.
-pub long-put : (v : ℕ) (a b c : List ℕ) (p q r : ℕ) → Put a b p q (le_write 2 (v % 65536)) → Put b c q r (le_write 2 (v / 65536))
-    → Put a c p r (le_write 4 v)
-long-put v a b c p q r f g =
-    let e0 : v % 65536 % 256 ≡ v % 256 = omega arith in
-    let e1 = second_byte v in
-    let high : v / 65536 ≡ v / 256 / 256 = omega arith in
-    let same : le_write 2 (v % 65536) ++ le_write 2 (v / 65536) ≡ le_write 4 v = λ i. e0 i ∷ e1 i ∷ le_write 2 (high i) in
-    put_same a c p r (le_write 2 (v % 65536) ++ le_write 2 (v / 65536)) (le_write 4 v) same
-    (put_then a b c p q r (le_write 2 (v % 65536)) (le_write 2 (v / 65536)) f g)
 
 module _ (ground water : Bool) (fs : List Value) where
   mask : Mask
@@ -72,22 +57,18 @@ supplies_printed : (x : Context) (s : Supplies) → supplies_bytes s ≡ print (
 unfolding print
 supplies_printed x s = refl
 
-module _ (u : Client) (m : MotionBits) (items n : ℕ) (em : m ≡ motion_bits u.motion) (ei : items ≡ of_z w32 u.items)
-    (en : n ≡ from_bits 16 (client_mask u.ground u.water (client_fields m items u.arms (supplies_values u.supplies)))) where
-  abbrev fields : List Value
-  fields = client_fields m items u.arms (supplies_values u.supplies)
-
+module _ (u : Client) (n : ℕ) (en : n ≡ from_bits 16 (client_mask u.ground u.water (client_fields u))) where
   abbrev states : List ℕ
-  states = sent_bytes client_slots (client_fields m items u.arms []) ++ supplies_bytes u.supplies
+  states = sent_bytes client_slots (client_fields u) ++ supplies_bytes u.supplies
 
   same_bytes : (x : Context) → le_write 1 15 ++ (le_write 2 n ++ states) ≡ print (layout x) (send_client (client_values u))
   same_bytes x =
+      let fs = client_fields u in
       ap (λ (n : ℕ). le_write 1 15 ++ (le_write 2 n ++ states)) en
-      ∙ ap (λ (l : List ℕ). le_write 1 15 ++ (le_write 2 (from_bits 16 (client_mask u.ground u.water fields)) ++ (sent_bytes client_slots fields ++ l)))
+      ∙ ap (λ (l : List ℕ). le_write 1 15 ++ (le_write 2 (from_bits 16 (client_mask u.ground u.water fs))
+      ++ (sent_bytes client_slots fs ++ l)))
       (supplies_printed x u.supplies)
-      ∙ client-bytes x u.ground u.water fields
-      ∙ (λ i. print (layout x) (send_client (number (bit_of u.ground) ∷ number (bit_of u.water)
-      ∷ client_fields (em i) (ei i) u.arms (supplies_values u.supplies))))
+      ∙ client-bytes x u.ground u.water fs
 
   pub client-put : (a b c d : List ℕ) (i j k l : ℕ) → Put a b i j (le_write 1 15) → Put b c j k (le_write 2 n) → Put c d k l states
       → (x : Context) → Put a d i l (print (layout x) (send_client (client_values u)))

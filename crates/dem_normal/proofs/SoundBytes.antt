@@ -2,8 +2,7 @@
 -- Assumes nothing.
 use mathlib.Core.Path.{◌≡◌, refl, sym, ap, ◌∙◌}
 use mathlib.Core.List.{List, ◌∷◌, ◌++◌}
-use Prim.Native.Nat.{ℕ, ◌+◌, ◌*◌, ◌%◌}
-use native.Mathlib.Omega.{arith}
+use Prim.Native.Nat.{ℕ}
 use Rattle.dem.specs.Kind
 use Rattle.format.specs.Bytes.{le_write, bit, from_bits}
 use Rattle.format.specs.Layout.{Value, number, Layout, done, print, tail}
@@ -18,21 +17,9 @@ use Rattle.dem_scene.specs.Views.{filled_sound_values}
 use Rattle.dem_scene.specs.declared.FilledSound.{FilledSound}
 use Rattle.dem_normal.specs.Put.{Put}
 use Rattle.dem_normal.specs.Sent.{sent_bytes}
-use Rattle.dem_normal.specs.Normal.{vector_bytes, place_bytes}
-use Rattle.dem_normal.proofs.PutLaws.{put_same, put_then, second_byte}
+use Rattle.dem_normal.specs.Normal.{place_bytes}
+use Rattle.dem_normal.proofs.PutLaws.{put_same, put_then}
 use Rattle.dem_normal.proofs.UpdateBytes.{slot-bytes}
-
--- Channel and entity in 16 bits, then the sound and its origin.
-pub place-put : (s : FilledSound) (a b c d : List ℕ) (p q r t : ℕ) → Put a b p q (le_write 2 ((s.entity.0 * 8 + s.channel) % 65536))
-    → Put b c q r (le_write 1 s.sound) → Put c d r t (vector_bytes s.origin) → Put a d p t (place_bytes s)
-place-put s a b c d p q r t f g h =
-    let n = s.entity.0 * 8 + s.channel in
-    let later = le_write 1 s.sound ++ vector_bytes s.origin in
-    let e0 : n % 65536 % 256 ≡ n % 256 = omega arith in
-    let e1 = second_byte n in
-    let same : le_write 2 (n % 65536) ++ later ≡ place_bytes s = λ i. e0 i ∷ e1 i ∷ later in
-    put_same a d p t (le_write 2 (n % 65536) ++ later) (place_bytes s) same
-    (put_then a b d p q t (le_write 2 (n % 65536)) later f (put_then b c d q r t (le_write 1 s.sound) (vector_bytes s.origin) g h))
 
 module _ (s : FilledSound) where
   abbrev fields : List Value

@@ -3,11 +3,10 @@
 use mathlib.Core.Path.{◌≡◌, refl, sym, ap, ap₂, ◌∙◌}
 use mathlib.Core.List.{List, [], ◌∷◌, ◌++◌, append_assoc, append-nil}
 use mathlib.Core.Bool.{Bool, true, false, cond, not}
-use Prim.Native.Nat.{ℕ, zero, suc, ◌/◌, ◌%◌, ◌≤◌}
+use Prim.Native.Nat.{ℕ, zero, suc, ◌/◌, ◌%◌}
 use native.Mathlib.Omega.{arith}
 use borrow.Author.Tests.{ne_eqb, le-leb}
 use lib.Dec.{eqb, leb, lit<}
-use mir.Val.{bool_byte}
 use Rattle.dem.specs.Kind
 use Rattle.format.specs.Bytes.{le_write, is_set, bit, bit_of}
 use Rattle.format.specs.Layout.{Value, number, Layout, done, print, first_value, first_number, as_number, tail}
@@ -19,9 +18,8 @@ use Rattle.dem.proofs.UpdateLaws.{number_bit, high_bit_lem, number_agrees}
 use Rattle.dem_scene.specs.Views.{baseline_numbers, record_values}
 use Rattle.dem_scene.specs.declared.Baseline.{Baseline as Base}
 use Rattle.dem_scene.specs.declared.Record.{Record}
-use Rattle.dem_normal.specs.declared.PoseBits.{PoseBits}
 use Rattle.dem_normal.specs.Put.{Put}
-use Rattle.dem_normal.specs.Sent.{sent_bytes, bits_of, field_values, defaults, update_bits, head_bytes}
+use Rattle.dem_normal.specs.Sent.{sent_bytes, record_fields, update_bits, head_bytes}
 use Rattle.dem_normal.proofs.PutLaws.{put_same, put_then}
 
 pub set_test : (n : ℕ) → not (eqb n 0) ≡ is_set n
@@ -110,34 +108,12 @@ update-bytes x b e false fs = whole b e false fs x
 
 -- ---- as code puts them
 
-pub head-put : (n h e : ℕ) (a b c d f : List ℕ) (p q r s t : ℕ) → Put a b p q (le_write 1 n) → Put b c q r (cond (not (eqb h 0)) (le_write 1 h) [])
-    → Put c d r s (le_write 1 (e % 256)) → Put d f s t (cond (leb 256 e) (le_write 1 (e / 256)) []) → Put a f p t (head_bytes n h e)
-head-put n h e a b c d f p q r s t g0 g1 g2 g3 =
-    let wide = cond (leb 256 e) (le_write 1 (e / 256)) [] in
-    let high = cond (not (eqb h 0)) (le_write 1 h) [] in
-    let low : e % 256 % 256 ≡ e % 256 = omega arith in
-    let same : le_write 1 n ++ (high ++ (le_write 1 (e % 256) ++ wide)) ≡ head_bytes n h e = λ i. le_write 1 n ++ (cond (set_test h i) (le_write 1 h) [] ++ ((low i ∷ []) ++ wide)) in
-    put_same a f p t (le_write 1 n ++ (high ++ (le_write 1 (e % 256) ++ wide))) (head_bytes n h e) same
-    (put_then a b f p q t (le_write 1 n) (high ++ (le_write 1 (e % 256) ++ wide)) g0
-    (put_then b c f q r t high (le_write 1 (e % 256) ++ wide) g1 (put_then c d f r s t (le_write 1 (e % 256)) wide g2 g3)))
-
-module _ (e : ℕ) (u : Record) (o : Base) (p p₀ : PoseBits) (n h : ℕ) (ep : p ≡ bits_of u.pose) (eo : p₀ ≡ bits_of o.pose)
-    (eh : h ≡ high_byte (update_bits e u.bit5 u.look u.effects p o.look p₀))
-    (en : n ≡ update_number (update_bits e u.bit5 u.look u.effects p o.look p₀)) (a b c : List ℕ) (i j k : ℕ) where
-  abbrev made : Context → PoseBits → PoseBits → List ℕ
-  made x p p₀ =
-      print (layout x) (send_update (defaults o.look p₀) (number e ∷ number (bit_of u.bit5) ∷ field_values u.look u.effects p))
-
-  pub update-put : Put a b i j (head_bytes n h e) → Put b c j k (sent_bytes (update_slots (defaults o.look p₀)) (field_values u.look u.effects p))
+module _ (e : ℕ) (u : Record) (o : Base) (n h : ℕ) (eh : h ≡ high_byte (update_bits e u o)) (en : n ≡ update_number (update_bits e u o))
+    (a b c : List ℕ) (i j k : ℕ) where
+  pub update-put : Put a b i j (head_bytes n h e) → Put b c j k (sent_bytes (update_slots (baseline_numbers o)) (record_fields u))
       → (x : Context) → Put a c i k (print (layout x) (send_update (baseline_numbers o) (number e ∷ record_values u)))
   update-put f g x =
-      let fs = field_values u.look u.effects p in
-      let later = sent_bytes (update_slots (defaults o.look p₀)) fs in
-      let same = ap₂ (λ (n h : ℕ). head_bytes n h e ++ later) en eh ∙ update-bytes x (defaults o.look p₀) e u.bit5 fs
-      ∙ ap₂ (λ (p p₀ : PoseBits). made x p p₀) ep eo in
+      let later = sent_bytes (update_slots (baseline_numbers o)) (record_fields u) in
+      let same = ap₂ (λ (n h : ℕ). head_bytes n h e ++ later) en eh ∙ update-bytes x (baseline_numbers o) e u.bit5 (record_fields u) in
       put_same a c i k (head_bytes n h e ++ later) (print (layout x) (send_update (baseline_numbers o) (number e ∷ record_values u))) same
       (put_then a b c i j k (head_bytes n h e) later f g)
-
-pub bool_byte_lem : (b : Bool) → bool_byte b ≤ 1
-bool_byte_lem true = omega arith
-bool_byte_lem false = omega arith

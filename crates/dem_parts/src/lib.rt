@@ -1,136 +1,124 @@
-// Parts that several messages have, at a cursor, and what a reader of messages takes and answers.
+// Parts that several messages have, each read at a place, and what the messages of a scene depend on.
 #![tactic(auto)]
 
-ghost use Rattle.std.specs.Prelude.{◌≡◌, [], ◌∷◌};
-ghost use Rattle.format.specs.Layout.{number, done};
-ghost use Rattle.wire.specs.Cursors.{gotten, parse_at};
+ghost use Rattle.std.specs.Prelude.{◌≡◌, [], ◌∷◌, cond, drop, Ok, Err};
+ghost use Rattle.format.specs.Bytes.{read_number};
+ghost use Rattle.format.specs.Layout.{number, done, parse};
+ghost use Rattle.dem.specs.Message.{below, entity_rule};
+ghost use Rattle.wire.specs.Reads.{read_of};
+ghost use Rattle.dem_types.specs.declared.Entity.{Entity};
 ghost use Rattle.dem_types.specs.Values.{vector_values, look_values, pose_values};
-ghost use Rattle.dem_parts.specs.Kinds.{vector_layout, look_layout, pose_layout, source_layout, entity_at};
+ghost use Rattle.dem_parts.specs.Kinds.{vector_layout, look_layout, pose_layout, source_layout, source_values};
 
 use dem::limit::ENTITY_BOUND;
 use dem::sound::CHANNEL_COUNT;
-use dem_types::{Entity, Look, Message, Pose, Time, Vector};
-use format::refusal::WRONG_NUMBER;
-use wire::{Cursor, Word};
+use dem_types::{Entity, Look, Pose, Vector};
+use format::refusal::{Refusal, Refused};
+use wire::{Number, Read, read};
 
-// The numbers of a scene that a message's layout depends on.
+// The numbers of a scene that a message's layout depends on: of the latest time its bits, or none yet.
 #[derive(Clone, Copy)]
 pub struct Context {
     pub limit: u8,
     pub statics: u8,
-    pub time: Time,
+    pub time: Option<u32>,
 }
 
+// A sound's channel and entity.
 #[derive(Clone, Copy)]
-pub struct VectorAt {
-    pub vector: Vector,
-    pub cursor: Cursor,
-}
-
-#[derive(Clone, Copy)]
-pub struct LookAt {
-    pub look: Look,
-    pub cursor: Cursor,
-}
-
-#[derive(Clone, Copy)]
-pub struct PoseAt {
-    pub pose: Pose,
-    pub cursor: Cursor,
-}
-
-#[derive(Clone, Copy)]
-pub struct MessageAt {
-    pub message: Message,
-    pub cursor: Cursor,
-}
-
-#[derive(Clone, Copy)]
-pub struct SourceAt {
+pub struct Source {
     pub channel: u8,
     pub entity: Entity,
-    pub cursor: Cursor,
 }
 
-pub fn read_vector(s: &[u8], c: Cursor) -> VectorAt
-    ensures { gotten s.now (vector_values result.vector) result.cursor ≡ parse_at s.now c (vector_layout done) }
+#[tactic(auto, unfolding(format::specs::Layout::parse))]
+pub fn read_vector(s: &[u8], at: usize) -> Read<Vector>
+    ensures { read_of vector_values s.now result ≡ parse (vector_layout done) (drop at s.now) }
 {
-    let x = wire::read_short(s, c);
-    let y = wire::read_short(s, x.cursor);
-    let z = wire::read_short(s, y.cursor);
-    let vector = Vector {
-        x: x.value,
-        y: y.value,
-        z: z.value,
-    };
-    let cursor = z.cursor;
-    VectorAt { vector, cursor }
+    let (x, at) = read(s, at)?;
+    let (y, at) = read(s, at)?;
+    let (z, at) = read(s, at)?;
+    Ok((Vector { x, y, z }, at))
 }
 
-pub fn read_look(s: &[u8], c: Cursor) -> LookAt
-    ensures { gotten s.now (look_values result.look) result.cursor ≡ parse_at s.now c (look_layout done) }
+#[tactic(auto, unfolding(format::specs::Layout::parse))]
+pub fn read_look(s: &[u8], at: usize) -> Read<Look>
+    ensures { read_of look_values s.now result ≡ parse (look_layout done) (drop at s.now) }
 {
-    let m = wire::read_byte(s, c);
-    let f = wire::read_byte(s, m.cursor);
-    let o = wire::read_byte(s, f.cursor);
-    let k = wire::read_byte(s, o.cursor);
+    let (model, at) = read(s, at)?;
+    let (frame, at) = read(s, at)?;
+    let (colormap, at) = read(s, at)?;
+    let (skin, at) = read(s, at)?;
     let look = Look {
-        model: m.value,
-        frame: f.value,
-        colormap: o.value,
-        skin: k.value,
+        model,
+        frame,
+        colormap,
+        skin,
     };
-    let cursor = k.cursor;
-    LookAt { look, cursor }
+    Ok((look, at))
 }
 
-pub fn read_pose(s: &[u8], c: Cursor) -> PoseAt
-    ensures { gotten s.now (pose_values result.pose) result.cursor ≡ parse_at s.now c (pose_layout done) }
+#[tactic(auto, unfolding(format::specs::Layout::parse))]
+pub fn read_pose(s: &[u8], at: usize) -> Read<Pose>
+    ensures { read_of pose_values s.now result ≡ parse (pose_layout done) (drop at s.now) }
 {
-    let x = wire::read_short(s, c);
-    let a = wire::read_char(s, x.cursor);
-    let y = wire::read_short(s, a.cursor);
-    let b = wire::read_char(s, y.cursor);
-    let z = wire::read_short(s, b.cursor);
-    let d = wire::read_char(s, z.cursor);
+    let (x, at) = read(s, at)?;
+    let (angle0, at) = read(s, at)?;
+    let (y, at) = read(s, at)?;
+    let (angle1, at) = read(s, at)?;
+    let (z, at) = read(s, at)?;
+    let (angle2, at) = read(s, at)?;
     let pose = Pose {
-        x: x.value,
-        angle0: a.value,
-        y: y.value,
-        angle1: b.value,
-        z: z.value,
-        angle2: d.value,
+        x,
+        angle0,
+        y,
+        angle1,
+        z,
+        angle2,
     };
-    let cursor = d.cursor;
-    PoseAt { pose, cursor }
+    Ok((pose, at))
+}
+
+// A rule of a field that begins at a place.
+pub fn require(is_met: bool, refusal: Refusal, place: usize) -> Result<(), Refused>
+    ensures { result ≡ cond is_met (Ok tt) (Err (record { refusal = refusal; place = place })) }
+{
+    if is_met {
+        Ok(())
+    } else {
+        Err(Refused { refusal, place })
+    }
+}
+
+// A number below a bound.
+#[tactic(auto, unfolding(format::specs::Bytes::read_number))]
+pub fn read_below<T: Number>(s: &[u8], at: usize, bound: T) -> Read<T>
+    ensures { read_of T.bits s.now result ≡ read_number T.WIDTH (below (T.bits bound)) (drop at s.now) }
+{
+    let (number, next) = read::<T>(s, at)?;
+    let is_met = number.to_bits() < bound.to_bits();
+    require(is_met, Refusal::WrongNumber, at)?;
+    Ok((number, next))
 }
 
 // Document 01's E.
-pub fn read_entity(s: &[u8], c: Cursor) -> Word
-    ensures { gotten s.now result.value result.cursor ≡ entity_at s.now c }
+pub fn read_entity(s: &[u8], at: usize) -> Read<Entity>
+    ensures { read_of (λ (e : Entity). e.0) s.now result ≡ read_number 2 entity_rule (drop at s.now) }
 {
-    let w = wire::read_word(s, c);
-    let value = w.value;
-    let cursor = wire::refuse_if(w.cursor, c.at, ENTITY_BOUND <= value, WRONG_NUMBER);
-    Word { value, cursor }
+    let (number, at) = read_below(s, at, ENTITY_BOUND)?;
+    Ok((Entity(number), at))
 }
 
 // Three bits of channel, then the entity.
-pub fn read_source(s: &[u8], c: Cursor) -> SourceAt
-    ensures { gotten s.now (number result.channel ∷ number result.entity.0 ∷ []) result.cursor ≡ parse_at s.now c source_layout }
+#[tactic(auto, unfolding(format::specs::Layout::parse, format::specs::Bytes::read_number))]
+pub fn read_source(s: &[u8], at: usize) -> Read<Source>
+    ensures { read_of source_values s.now result ≡ parse source_layout (drop at s.now) }
 {
-    let w = wire::read_word(s, c);
-    let both = w.value;
-    let entity = Entity(both / CHANNEL_COUNT);
-    let cursor = wire::refuse_if(
-        w.cursor,
-        c.at,
-        ENTITY_BOUND <= both / CHANNEL_COUNT,
-        WRONG_NUMBER,
-    );
-    SourceAt {
+    let (both, next) = read::<u16>(s, at)?;
+    let source = Source {
         channel: (both % CHANNEL_COUNT) as u8,
-        entity,
-        cursor,
-    }
+        entity: Entity(both / CHANNEL_COUNT),
+    };
+    require(source.entity.0 < ENTITY_BOUND, Refusal::WrongNumber, at)?;
+    Ok((source, next))
 }

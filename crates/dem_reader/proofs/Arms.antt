@@ -1,47 +1,45 @@
--- The arms of the match on a message's number.
+-- The arms of the match on a message's number that read no reader's message.
 -- Assumes nothing.
-use mathlib.Core.Path.{◌≡◌, sym, ap, ◌∙◌, subst}
-use mathlib.Core.List.{List, [], ◌∷◌}
+use mathlib.Core.Path.{◌≡◌, refl, sym, ap, ◌∙◌, subst}
 use mathlib.Core.Logic.{◌≢◌}
-use Prim.Native.Nat.{ℕ, suc, ◌≤◌}
-use mathlib.Core.Bool.{true, false}
-use native.Mathlib.Omega.{arith}
-use borrow.Author.Tests.{ne_eqb, le-leb}
-use Rattle.format.specs.Layout.{Value, number, Layout, done, put}
+use mathlib.Core.List.{List, [], ◌∷◌}
+use mathlib.Core.Bool.{Bool, true, false, not, ◌&&◌, ◌||◌}
+use Prim.Native.Nat.{ℕ, ◌≤◌}
+use borrow.Author.Tests.{le-leb, leb-true, eqb-true, eqb-false}
+use lib.Dec.{leb, eqb}
+use Rattle.format.specs.Bytes.{Result, found}
+use Rattle.format.specs.Layout.{Value, number, Layout, put, parse}
 use Rattle.dem.specs.Scene.{Context}
 use Rattle.dem.specs.Message.{is_message, update_layout, kind_layout}
-use Rattle.format.proofs.ResultLaws.{clash}
 use Rattle.dem.proofs.MessageLaws.{kind-update}
-use Rattle.wire.specs.Cursors.{gotten, parse_at}
-use Rattle.wire.specs.declared.Cursor.{Cursor}
-use Rattle.wire.proofs.Sticky.{reads-done}
-use Rattle.dem_parts.specs.Kinds.{kind_at}
-use Rattle.dem_parts.proofs.Rules.{kind-reads}
+use Rattle.dem_parts.specs.Kinds.{kind_in}
+use Rattle.dem_reader.proofs.Passing.{one_of}
 
--- One number more is passed.
-pub past : (n k : ℕ) → k ≤ n → n ≢ k → suc k ≤ n
-past n k h q = omega arith
+-- The messages without fields.
+abbrev is_bare : ℕ → Bool
+is_bare n = ((((eqb n 1 || eqb n 2) || eqb n 27) || eqb n 28) || eqb n 30) || eqb n 33
 
-module _ (s : List ℕ) (c : Cursor) (x : Context) (n k : ℕ) (key : n ≡ k) where
-  -- What the reader of kind k answers, where the number is k.
-  pub arm : (vs : List Value) (d : Cursor) → gotten s vs d ≡ kind_at s c x k → gotten s vs d ≡ kind_at s c x n
-  arm vs d p = p ∙ ap (kind_at s c x) (sym key)
+pub bare_kind : (x : Context) (n : ℕ) (bs : List ℕ) → is_bare n ≡ true → kind_in x n bs ≡ found (number n ∷ []) bs
+unfolding kind_in kind_layout parse
+bare_kind x n bs =
+    one_of P n 33 _ (one_of P n 30 _ (one_of P n 28 _ (one_of P n 27 _ (one_of P n 2 _
+    (λ h. subst P (sym (eqb-true n 1 h)) refl) refl) refl) refl) refl) refl
+  where
+    P : ℕ → Type 0
+    P n = kind_in x n bs ≡ found (number n ∷ []) bs
 
-  -- A message without fields.
-  pub empty_arm : kind_layout x k ≡ done → gotten s (number k ∷ []) c ≡ kind_at s c x n
-  empty_arm e =
-      arm (number k ∷ []) c (kind-reads s c x k [] c (subst (λ (l : Layout). gotten s [] c ≡ parse_at s c l) (sym e) (reads-done s c)))
+-- A message that is none of the others is an update.
+pub above : (n : ℕ) → is_message n ≡ true → (1 ≤ n → n ≤ 34 → n ≢ 21 → ⊥) → 128 ≤ n
+above n h none = go (leb 128 n) (leb 1 n) (leb n 34) (eqb n 21) refl refl refl refl h
+  where
+    go : (a b c d : Bool) → leb 128 n ≡ a → leb 1 n ≡ b → leb n 34 ≡ c → eqb n 21 ≡ d → (a || (b && c && not d)) ≡ true → 128 ≤ n
+    go true b c d ea eb ec ed p = leb-true 128 n ea
+    go false true true false ea eb ec ed p = absurd (none (leb-true 1 n eb) (leb-true n 34 ec) (eqb-false n 21 ed))
+    go false true true true ea eb ec ed p = absurd (cc)
+    go false true false d ea eb ec ed p = absurd (cc)
+    go false false c d ea eb ec ed p = absurd (cc)
 
--- Behind a refusal nothing is read, whatever the number.
-pub stuck_arm : (s : List ℕ) (c : Cursor) (x : Context) (n : ℕ) (vs : List Value) → (c.refusal ≡ 0 → is_message n ≡ true)
-    → is_message n ≡ false → gotten s vs c ≡ kind_at s c x n
-unfolding gotten kind_at parse_at
-stuck_arm s c x n vs k m =
-    let z : (c.refusal ≡ 0 → ⊥) = λ e. let t : is_message n ≡ true = k e in clash (cc) in
-    rw (ne_eqb c.refusal 0 z)
-
-pub update_arm : (s : List ℕ) (c : Cursor) (x : Context) (n : ℕ) (vs : List Value) (d : Cursor) → 128 ≤ n
-    → gotten s vs d ≡ put (number n) (parse_at s c (update_layout n)) → gotten s vs d ≡ kind_at s c x n
-unfolding kind_at
-update_arm s c x n vs d h p =
-    p ∙ ap (λ (l : Layout). put (number n) (parse_at s c l)) (sym (kind-update x n (le-leb 128 n h)))
+pub update_arm : (x : Context) (n : ℕ) (bs : List ℕ) (r : Result (List Value)) → 128 ≤ n → r ≡ put (number n) (parse (update_layout n) bs)
+    → r ≡ kind_in x n bs
+unfolding kind_in
+update_arm x n bs r h p = p ∙ ap (λ (l : Layout). put (number n) (parse l bs)) (sym (kind-update x n (le-leb 128 n h)))

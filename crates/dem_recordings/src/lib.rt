@@ -1,27 +1,30 @@
 // The entries over track lines, blocks and recordings: any bytes and any scene get an answer. None has a `requires`.
 #![tactic(auto)]
 
-ghost use Rattle.std.specs.Prelude.{◌≡◌, true, ◌≤◌, length, drop};
+ghost use Rattle.std.specs.Prelude.{◌≡◌, ◌≢◌, true, false, ◌≤◌, length, drop, Some};
+ghost use Rattle.format.specs.Refusal.{code, short_room};
 ghost use Rattle.dem.specs.Scene.{fresh};
 ghost use Rattle.dem.specs.Recording.{blocks as recording_blocks, normal_block};
-ghost use Rattle.format.specs.Answer.{reply, result as a_result, normal_at};
+ghost use Rattle.format.specs.Answer.{written, normal_at};
 ghost use Rattle.dem.specs.Answer.{track_at, outline_at, blocks_at, whole, normal_blocks_at, track_normal, whole_normal};
 ghost use Rattle.dem_scene.specs.Views.{scene_of};
-ghost use Rattle.dem_blocks.specs.Runs.{stored, wrote_of, run_of, wrote};
+ghost use Rattle.dem_blocks.specs.Runs.{refusal_in, place_in, stored, wrote_of, run_of, wrote};
 ghost use Rattle.dem_messages.specs.Replies.{written_of, normal_reply_of};
-ghost use Rattle.dem_recordings.specs.Replies.{track_answer_of, block_reply_of, blocks_reply_of, recording_reply_of, rewrite_answer_of, rewrite_reply_of, track_written_of};
+ghost use Rattle.dem_recordings.specs.Replies.{track_answer_of, block_reply_of, blocks_reply_of, recording_reply_of, summary_of, rewrite_reply_of, track_written_of};
+ghost use Rattle.dem_recordings.specs.Steps.{from_start};
+ghost use Rattle.format.specs.declared.refusal.Refused.{Refused};
 
 use dem::limit::HEAD_SIZE;
 use dem_blocks::{BlocksAt, WrittenAt};
-use dem_messages::{NormalAnswer, NormalReply, WriteAnswer, WriteReply, start};
+use dem_messages::{Normal, Reply, ask_at, ask_room, start};
 use dem_scene::Scene;
-use format::refusal::{CUT_MESSAGE, SHORT_ROOM, WRONG_SCENE};
+use format::refusal::{Refusal, Refused};
 
-// A track number and the place of what follows its line; or a refusal's number and place.
+// A track number and the place of what follows its line.
 #[derive(Clone, Copy)]
-pub enum TrackAnswer {
-    Found(i16, usize),
-    Refused(u8, usize),
+pub struct Track {
+    pub number: i16,
+    pub next: usize,
 }
 
 // A block's angles by their bits, the place and the number of its messages, and the place of what follows it.
@@ -35,102 +38,71 @@ pub struct Outline {
     pub next: usize,
 }
 
-#[derive(Clone, Copy)]
-pub enum BlockAnswer {
-    Found(Outline),
-    End,
-    Refused(u8, usize),
-}
-
-// With a refusal and at the end, the scene given.
-#[derive(Clone, Copy)]
-pub struct BlockReply {
-    pub answer: BlockAnswer,
-    pub scene: Scene,
-}
-
-// Of a run of blocks: how many were read, and their messages; the place behind them; the refusal met there, 0 for none, and its place.
+// Of a run of blocks: how many were read, and their messages; the place behind them, and the refusal met there.
 #[derive(Clone, Copy)]
 pub struct Progress {
     pub blocks: usize,
     pub messages: usize,
     pub next: usize,
-    pub refusal: u8,
-    pub place: usize,
+    pub refused: Option<Refused>,
 }
 
-#[derive(Clone, Copy)]
-pub enum BlocksAnswer {
-    Read(Progress),
-    Refused(u8, usize),
+impl Progress {
+    // What is told of blocks that were read, and of the refusal met behind them.
+    fn of(b: &BlocksAt, refused: Option<Refused>) -> Progress
+        ensures { result ≡ record { blocks = b.now.blocks; messages = b.now.messages; next = b.now.next; refused = refused } }
+    {
+        Progress {
+            blocks: b.blocks,
+            messages: b.messages,
+            next: b.next,
+            refused,
+        }
+    }
 }
 
-// The scene after the blocks that were read.
+// A recording's track number, blocks and messages.
 #[derive(Clone, Copy)]
-pub struct BlocksReply {
-    pub answer: BlocksAnswer,
-    pub scene: Scene,
-}
-
-// A recording's track number, blocks and messages; or a refusal's number and place.
-#[derive(Clone, Copy)]
-pub enum RecordingAnswer {
-    Read(i16, usize, usize),
-    Refused(u8, usize),
-}
-
-// With a refusal, the scene at the start.
-#[derive(Clone, Copy)]
-pub struct RecordingReply {
-    pub answer: RecordingAnswer,
-    pub scene: Scene,
+pub struct Summary {
+    pub track: i16,
+    pub blocks: usize,
+    pub messages: usize,
 }
 
 // The track line at the front of a recording.
-pub fn read_track(bytes: &[u8]) -> TrackAnswer
+#[tactic(auto, using(crate::proofs::Recordings::track_wrong))]
+pub fn read_track(bytes: &[u8]) -> Result<Track, Refused>
     ensures { track_answer_of result ≡ track_at bytes.now }
 {
-    let t = dem_framing::read_track(bytes);
-    let refusal = t.refusal;
-    if refusal != 0 {
-        return TrackAnswer::Refused(refusal, t.at);
-    }
-    TrackAnswer::Found(t.number, t.at)
+    let (number, next) = dem_framing::read_track(bytes)?;
+    Ok(Track { number, next })
 }
 
 // The block at a place of a recording, in a scene.
-pub fn read_block_at(scene: Scene, bytes: &[u8], at: usize) -> BlockReply
+#[tactic(auto, using(crate::proofs::Recordings::outline_asked))]
+pub fn read_block_at(scene: Scene, bytes: &[u8], at: usize) -> Reply<Option<Outline>>
     ensures { block_reply_of result ≡ outline_at (scene_of scene) bytes.now at }
 {
-    let rest = scene.rest;
-    let present = scene.present;
-    if !dem_scene::in_range(present, scene.present_count, rest) {
-        return BlockReply {
-            answer: BlockAnswer::Refused(WRONG_SCENE, 0),
+    if let Err(r) = ask_at(&scene, bytes, at) {
+        return Reply {
+            answer: Err(r),
             scene,
         };
     }
     if at == bytes.len() {
-        return BlockReply {
-            answer: BlockAnswer::End,
-            scene,
-        };
-    }
-    if bytes.len() < at {
-        return BlockReply {
-            answer: BlockAnswer::Refused(CUT_MESSAGE, at),
+        return Reply {
+            answer: Ok(None),
             scene,
         };
     }
     let b = dem_blocks::read_blocks(bytes, at, 1, scene);
-    let refusal = b.refusal;
-    if refusal != 0 {
-        return BlockReply {
-            answer: BlockAnswer::Refused(refusal, b.place),
+    if let Some(r) = b.refused {
+        return Reply {
+            answer: Err(r),
             scene,
         };
     }
-    let h = dem_framing::read_head(bytes, at);
+    let h = dem_framing::read_head(bytes, at).unwrap();
     let outline = Outline {
         angle0: h.angle0,
         angle1: h.angle1,
@@ -139,87 +111,78 @@ pub fn read_block_at(scene: Scene, bytes: &[u8], at: usize) -> BlockReply
         messages: b.messages,
         next: b.next,
     };
-    let after = b.scene;
-    BlockReply {
-        answer: BlockAnswer::Found(outline),
-        scene: after,
+    Reply {
+        answer: Ok(Some(outline)),
+        scene: b.scene,
     }
 }
 
-// What is told of blocks that were read, and of the refusal met behind them.
-fn told(b: BlocksAt, refusal: u8, place: usize) -> BlocksReply
-    ensures { blocks_reply_of result ≡ reply (scene_of b.scene) (a_result (record { blocks = b.blocks; messages = b.messages; next = b.next; refusal = refusal; place = place })) }
+// Whether a run was refused inside a block, or for want of room: it then answers the scene given, and no messages.
+fn stopped_inside(b: &BlocksAt) -> bool
+    ensures inside { result ≡ true → (k : Refused) × (b.now.refused ≡ Some k) }
+    ensures behind { result ≡ false → (b.now.next ≡ place_in b.now.next b.now.refused) × (refusal_in b.now.refused ≢ code short_room) }
 {
-    let passed = Progress {
-        blocks: b.blocks,
-        messages: b.messages,
-        next: b.next,
-        refusal,
-        place,
-    };
-    let after = b.scene;
-    BlocksReply {
-        answer: BlocksAnswer::Read(passed),
-        scene: after,
+    match b.refused {
+        Some(r) => r.place != b.next || r.refusal == Refusal::ShortRoom,
+        None => false,
     }
 }
 
-// As many whole blocks as there are from a place of a recording on, in a scene. Where a message is refused, the blocks before its own
-// are read again, for the scene that they lead to.
-pub fn read_blocks_at(scene: Scene, bytes: &[u8], at: usize) -> BlocksReply
+// As many whole blocks as there are from a place of a recording on, in a scene: the scene after them. Where a message is refused, the blocks
+// before its own are read again, for the scene that they lead to.
+#[tactic(auto, using(crate::proofs::Recordings::blocks_asked))]
+pub fn read_blocks_at(scene: Scene, bytes: &[u8], at: usize) -> Reply<Progress>
     ensures { blocks_reply_of result ≡ blocks_at (scene_of scene) bytes.now at }
 {
-    let rest = scene.rest;
-    let present = scene.present;
-    if !dem_scene::in_range(present, scene.present_count, rest) {
-        return BlocksReply {
-            answer: BlocksAnswer::Refused(WRONG_SCENE, 0),
-            scene,
-        };
-    }
-    if bytes.len() < at {
-        return BlocksReply {
-            answer: BlocksAnswer::Refused(CUT_MESSAGE, at),
+    if let Err(r) = ask_at(&scene, bytes, at) {
+        return Reply {
+            answer: Err(r),
             scene,
         };
     }
     let all = dem_blocks::read_blocks(bytes, at, bytes.len(), scene);
-    let next = all.next;
-    let place = all.place;
-    if next == place {
-        return told(all, all.refusal, place);
+    if !stopped_inside(&all) {
+        return Reply {
+            answer: Ok(Progress::of(&all, all.refused)),
+            scene: all.scene,
+        };
     }
-    told(
-        dem_blocks::read_blocks(bytes, at, all.blocks, scene),
-        all.refusal,
-        place,
-    )
+    let before = dem_blocks::read_blocks(bytes, at, all.blocks, scene);
+    Reply {
+        answer: Ok(Progress::of(&before, all.refused)),
+        scene: before.scene,
+    }
 }
 
-// A whole recording.
-pub fn read_recording(bytes: &[u8]) -> RecordingReply
+// A whole recording. With a refusal, the scene at the start.
+#[tactic(auto, using(crate::proofs::Recordings::recording_track))]
+pub fn read_recording(bytes: &[u8]) -> Reply<Summary>
     ensures { recording_reply_of result ≡ whole bytes.now }
 {
-    let t = dem_framing::read_track(bytes);
-    let wrong = t.refusal;
-    if wrong != 0 {
-        return RecordingReply {
-            answer: RecordingAnswer::Refused(wrong, t.at),
+    let (track, at) = match dem_framing::read_track(bytes) {
+        Ok(line) => line,
+        Err(r) => {
+            return Reply {
+                answer: Err(r),
+                scene: start(),
+            };
+        }
+    };
+    let b = dem_blocks::read_blocks(bytes, at, bytes.len(), start());
+    if let Some(r) = b.refused {
+        return Reply {
+            answer: Err(r),
             scene: start(),
         };
     }
-    let b = dem_blocks::read_blocks(bytes, t.at, bytes.len(), start());
-    let refusal = b.refusal;
-    if refusal != 0 {
-        return RecordingReply {
-            answer: RecordingAnswer::Refused(refusal, b.place),
-            scene: start(),
-        };
-    }
-    let after = b.scene;
-    RecordingReply {
-        answer: RecordingAnswer::Read(t.number, b.blocks, b.messages),
-        scene: after,
+    let summary = Summary {
+        track,
+        blocks: b.blocks,
+        messages: b.messages,
+    };
+    Reply {
+        answer: Ok(summary),
+        scene: b.scene,
     }
 }
 
@@ -232,132 +195,91 @@ pub struct Rewriting {
     pub length: usize,
 }
 
-#[derive(Clone, Copy)]
-pub enum RewriteAnswer {
-    Written(Rewriting),
-    Refused(u8, usize),
-}
-
-// The scene after the blocks that were written.
-#[derive(Clone, Copy)]
-pub struct RewriteReply {
-    pub answer: RewriteAnswer,
-    pub scene: Scene,
-}
-
-// What is told of blocks that were written, of the refusal met behind them and of the number of their bytes.
-fn told_written(b: BlocksAt, refusal: u8, place: usize, length: usize) -> RewriteReply
-    ensures { reply (scene_of result.scene) (rewrite_answer_of result.answer) ≡ reply (scene_of b.scene) (a_result (record { progress = record { blocks = b.blocks; messages = b.messages; next = b.next; refusal = refusal; place = place }; length = length })) }
-{
-    let progress = Progress {
-        blocks: b.blocks,
-        messages: b.messages,
-        next: b.next,
-        refusal,
-        place,
-    };
-    let after = b.scene;
-    RewriteReply {
-        answer: RewriteAnswer::Written(Rewriting { progress, length }),
-        scene: after,
-    }
-}
-
-// The normal forms of as many whole blocks as there are from a place of a recording on and the lent room takes, in a scene. Where a message
-// is refused or room is short, the blocks before are read again, for the scene that they lead to.
-pub fn normal_blocks_at(scene: Scene, bytes: &[u8], at: usize, room: &mut [u8]) -> RewriteReply
+// The normal forms of as many whole blocks as there are from a place of a recording on and the lent room takes, in a scene: the scene after
+// them. Where a message is refused or room is short, the blocks before are read again, for the scene that they lead to.
+#[tactic(auto, using(crate::proofs::NormalForms::rewrite_asked))]
+pub fn normal_blocks_at(scene: Scene, bytes: &[u8], at: usize, room: &mut [u8]) -> Reply<Rewriting>
     ensures { rewrite_reply_of result room.new ≡ normal_blocks_at (scene_of scene) bytes.now at room.old }
 {
-    let rest = scene.rest;
-    let present = scene.present;
-    if !dem_scene::in_range(present, scene.present_count, rest) {
-        return RewriteReply {
-            answer: RewriteAnswer::Refused(WRONG_SCENE, 0),
-            scene,
-        };
-    }
-    if bytes.len() < at {
-        return RewriteReply {
-            answer: RewriteAnswer::Refused(CUT_MESSAGE, at),
+    if let Err(r) = ask_at(&scene, bytes, at) {
+        return Reply {
+            answer: Err(r),
             scene,
         };
     }
     let w = dem_blocks::write_blocks(bytes, at, bytes.len(), scene, true, room.len(), room, 0);
     let all = w.read;
-    let next = all.next;
-    let place = all.place;
-    let refusal = all.refusal;
-    if (next == place) & (refusal != SHORT_ROOM) {
-        return told_written(all, refusal, place, w.written);
+    if !stopped_inside(&all) {
+        let rewriting = Rewriting {
+            progress: Progress::of(&all, all.refused),
+            length: w.written,
+        };
+        return Reply {
+            answer: Ok(rewriting),
+            scene: all.scene,
+        };
     }
     let before = dem_blocks::read_blocks(bytes, at, all.blocks, scene);
-    told_written(before, refusal, place, w.written)
+    let rewriting = Rewriting {
+        progress: Progress::of(&before, all.refused),
+        length: w.written,
+    };
+    Reply {
+        answer: Ok(rewriting),
+        scene: before.scene,
+    }
 }
 
 // The normal form of the block at a place of a recording, in a scene, into lent room. With a refusal nothing is written; what is behind the
 // normal form stays.
-pub fn normal_block_at(scene: Scene, bytes: &[u8], at: usize, room: &mut [u8]) -> NormalReply
+#[tactic(auto, using(crate::proofs::NormalForms::normal_asked))]
+pub fn normal_block_at(
+    scene: Scene,
+    bytes: &[u8],
+    at: usize,
+    room: &mut [u8],
+) -> Reply<Option<Normal>>
     ensures { normal_reply_of result room.new ≡ normal_at recording_blocks normal_block (scene_of scene) bytes.now at room.old }
 {
-    let rest = scene.rest;
-    let present = scene.present;
-    if !dem_scene::in_range(present, scene.present_count, rest) {
-        return NormalReply {
-            answer: NormalAnswer::Refused(WRONG_SCENE, 0),
+    if let Err(r) = ask_at(&scene, bytes, at) {
+        return Reply {
+            answer: Err(r),
             scene,
         };
     }
     if at == bytes.len() {
-        return NormalReply {
-            answer: NormalAnswer::End,
-            scene,
-        };
-    }
-    if bytes.len() < at {
-        return NormalReply {
-            answer: NormalAnswer::Refused(CUT_MESSAGE, at),
+        return Reply {
+            answer: Ok(None),
             scene,
         };
     }
     let w = dem_blocks::write_blocks(bytes, at, 1, scene, true, room.len(), room, 0);
     let b = w.read;
-    let refusal = b.refusal;
-    if refusal != 0 {
-        return NormalReply {
-            answer: NormalAnswer::Refused(refusal, b.place),
+    if let Some(r) = b.refused {
+        return Reply {
+            answer: Err(r),
             scene,
         };
     }
-    let after = b.scene;
-    NormalReply {
-        answer: NormalAnswer::Written(w.written, b.next),
-        scene: after,
+    let normal = Normal {
+        length: w.written,
+        next: b.next,
+    };
+    Reply {
+        answer: Ok(Some(normal)),
+        scene: b.scene,
     }
-}
-
-// The number of bytes written and the place of what follows the line; or a refusal's number and place.
-#[derive(Clone, Copy)]
-pub enum TrackNormalAnswer {
-    Written(usize, usize),
-    Refused(u8, usize),
 }
 
 // The normal form of the track line, into lent room. With a refusal nothing is written; what is behind the line stays.
-pub fn normal_track(bytes: &[u8], room: &mut [u8]) -> TrackNormalAnswer
+#[tactic(auto, using(crate::proofs::Normals::line_wrong))]
+pub fn normal_track(bytes: &[u8], room: &mut [u8]) -> Result<Normal, Refused>
     ensures { track_written_of result room.new ≡ track_normal bytes.now room.old }
 {
-    let t = dem_framing::read_track(bytes);
-    let refusal = t.refusal;
-    if refusal != 0 {
-        return TrackNormalAnswer::Refused(refusal, t.at);
-    }
-    let number = t.number;
-    let line = dem_framing::track_size(number);
-    if room.len() < line {
-        return TrackNormalAnswer::Refused(SHORT_ROOM, line);
-    }
-    let written = dem_framing::put_track(room, number);
-    TrackNormalAnswer::Written(written, t.at)
+    let (number, next) = dem_framing::read_track(bytes)?;
+    ask_room(room.len(), dem_framing::track_size(number))?;
+    let length = dem_framing::put_track(room, number);
+    Ok(Normal { length, next })
 }
 
 // The normal forms of all blocks from a place of a recording on, into at most so much room from a place of it on.
@@ -368,46 +290,38 @@ fn write_all(bytes: &[u8], at: usize, limit: usize, room: &mut [u8], base: usize
     dem_blocks::write_blocks(bytes, at, bytes.len(), start(), true, limit, room, base)
 }
 
-// More than any lent room: blocks are counted, and none is stored.
-const ANY_ROOM: usize = 18446744073709551615;
-
-// The normal form of a whole recording, into lent room: first counted, which also finds what is wrong, then written. With a refusal nothing
-// is written; what is behind the recording stays.
-pub fn normal_recording(bytes: &[u8], room: &mut [u8]) -> WriteReply
-    ensures { written_of result room.new ≡ whole_normal bytes.now room.old }
+// How many bytes the normal form of a whole recording has, and the scene after it: first counted, in more than any lent room, so that blocks
+// are counted and none is stored, which also finds what is wrong; then written.
+#[tactic(auto, using(crate::proofs::Normals::recording_wrong))]
+fn write_whole(bytes: &[u8], room: &mut [u8]) -> Result<(usize, Scene), Refused>
+    ensures { written (from_start (λ n. n) result) room.new ≡ whole_normal bytes.now room.old }
 {
-    let t = dem_framing::read_track(bytes);
-    let wrong = t.refusal;
-    if wrong != 0 {
-        return WriteReply {
-            answer: WriteAnswer::Refused(wrong, t.at),
-            scene: start(),
-        };
-    }
-    let number = t.number;
+    let (number, at) = dem_framing::read_track(bytes)?;
     let line = dem_framing::track_size(number);
-    let count = write_all(bytes, t.at, ANY_ROOM, room, 0);
-    let b = count.read;
-    let refusal = b.refusal;
-    if refusal != 0 {
-        return WriteReply {
-            answer: WriteAnswer::Refused(refusal, b.place),
-            scene: start(),
-        };
+    let count = write_all(bytes, at, usize::MAX, room, 0);
+    if let Some(r) = count.read.refused {
+        return Err(r);
     }
     let needed = line + count.written;
-    if room.len() < needed {
-        return WriteReply {
-            answer: WriteAnswer::Refused(SHORT_ROOM, needed),
-            scene: start(),
-        };
-    }
+    ask_room(room.len(), needed)?;
     dem_framing::put_track(room, number);
-    let w = write_all(bytes, t.at, count.written, room, line);
-    let read = w.read;
-    let after = read.scene;
-    WriteReply {
-        answer: WriteAnswer::Written(needed),
-        scene: after,
+    let w = write_all(bytes, at, count.written, room, line);
+    Ok((needed, w.read.scene))
+}
+
+// The normal form of a whole recording, into lent room; answers how many bytes are written. With a refusal nothing is written, and the scene
+// is that at the start; what is behind the recording stays.
+pub fn normal_recording(bytes: &[u8], room: &mut [u8]) -> Reply<usize>
+    ensures { written_of result room.new ≡ whole_normal bytes.now room.old }
+{
+    match write_whole(bytes, room) {
+        Ok((size, scene)) => Reply {
+            answer: Ok(size),
+            scene,
+        },
+        Err(r) => Reply {
+            answer: Err(r),
+            scene: start(),
+        },
     }
 }

@@ -3,7 +3,8 @@
 -- Assumes nothing.
 use mathlib.Core.Path.{◌≡◌, refl, sym, ap, ◌∙◌}
 use mathlib.Core.List.{List, [], ◌∷◌, map}
-use mathlib.Core.Option.{Option, none, some}
+use mathlib.Core.Option as Math
+use Rattle.std.specs.Prelude.{Option, Some, None}
 use Prim.Native.Nat.{ℕ}
 use mir.Syntax.{w16, w32}
 use mir.Val.{Val, of_z, to_z}
@@ -17,8 +18,6 @@ use Rattle.dem.specs.Limits.{entity_count, player_count, stat_count}
 use Rattle.format.specs.Layout.{numbers}
 use Rattle.dem.specs.Scene.{PlayerLine as Line, Scene as Described}
 use Rattle.wire.proofs.FieldLaws.{Held, Fixed, fixed_by, AsNumbers, truth, struct, from, from_front, Each, list_undone}
-use Rattle.dem_types.specs.declared.Time.{Time}
-use Rattle.dem_types.specs.declared.Time.TheVariants.{None, At}
 use Rattle.dem_types.specs.Values.{time_of}
 use Rattle.dem_types.proofs.Structs.{byte, long, entity, vector, look, pose, motion, arms, supplies}
 use Rattle.dem_scene.specs.declared.PlayerLine.{PlayerLine}
@@ -86,13 +85,13 @@ module _ (R : RattleType) {X : Type 0} (view : R.Denot → X) (undo : X → R.De
   items_undone : (n : ℕ) (xs : List R.Denot) (vs : List Val) → Is (Array R n) xs vs → map undo (map view xs) ≡ xs
   items_undone n xs vs h = items_held xs h.0 h.1.1
 
-abbrev time_from : Option ℕ → Time
-time_from none = None
-time_from (some bits) = At bits
+abbrev time_from : Math.Option ℕ → Option ℕ
+time_from Math.none = None
+time_from (Math.some bits) = Some bits
 
-time_back : (t : Time) → time_from (time_of t) ≡ t
+time_back : (t : Option ℕ) → time_from (time_of t) ≡ t
 time_back None = refl
-time_back (At bits) = refl
+time_back (Some bits) = refl
 
 abbrev rest_from : Described → Rest
 rest_from s =

@@ -1,29 +1,22 @@
--- A field that code picks, as a value: unsigned, or signed of any width. And which messages are filled in at all.
+-- A field that code picks, as a value: unsigned, or signed of any width. And a message that is filled in.
 -- Assumes nothing.
-use mathlib.Core.Path.{◌≡◌, refl, ap, ap₂, sym, ◌∙◌}
-use mathlib.Core.List.{List, [], ◌∷◌}
-use mathlib.Core.Bool.{Bool, true, false, cond, ◌||◌}
+use mathlib.Core.Path.{◌≡◌, refl, ap, sym, ◌∙◌}
+use mathlib.Core.List.{List}
+use mathlib.Core.Bool.{Bool, true, false, cond}
 use Prim.Native.Nat.{ℕ, ◌^◌, ◌<◌}
 use lib.IntN.{ℤ}
 use lib.Signed.{mag}
-use types.Run.{OneOf}
 use mir.Syntax.{Width}
 use mir.Val.{of_z, to_z, hbits}
 use Rattle.format.specs.Layout.{number, tail}
 use Rattle.dem.specs.Scene.{Scene, baseline_at}
 use Rattle.dem.specs.Message.{fill, fill_update, is_update}
-use Rattle.dem.proofs.MessageLaws.{fill-update, fill_plain}
+use Rattle.dem.proofs.MessageLaws.{fill-update}
 use Rattle.wire.specs.declared.Text.{Text}
 use Rattle.wire.proofs.SignedLaws.{same_bits}
-use Rattle.dem_types.proofs.ByNumber.{place_of, update_place, by_number, not_among}
 use Rattle.dem_types.specs.declared.Message.{Message}
 use Rattle.dem_types.specs.declared.Update.{Update}
 use Rattle.dem_types.specs.Values.{values_by, update_values}
-use Rattle.dem_scene.specs.Views.{plain_values}
-
--- What a flag picks, whichever way it is known.
-pub flag_picks : {A : Type 0} (f g : Bool) (a b : A) → f ≡ g → (r : A) → r ≡ cond f a b → r ≡ cond g a b
-flag_picks f g a b e r h = h ∙ ap (λ (s : Bool). cond s a b) e
 
 pub picked : (b : Bool) (r x y : ℕ) → r ≡ cond b x y → number r ≡ cond b (number x) (number y)
 picked b r x y e = ap number e ∙ through b
@@ -32,6 +25,7 @@ picked b r x y e = ap number e ∙ through b
     through true = refl
     through false = refl
 
+-- A signed field that code picks, by its bits.
 module _ (w : Width) (b : Bool) (r x y : ℤ) (fr : mag r < 2 ^ hbits w) (fx : mag x < 2 ^ hbits w) (fy : mag y < 2 ^ hbits w) where
   through : (s : Bool) → of_z w (cond s (to_z w (of_z w x)) (to_z w (of_z w y))) ≡ cond s (of_z w x) (of_z w y)
   through true = same_bits w x _ (record { sfits = fx }) refl
@@ -54,15 +48,3 @@ module _ (s : Scene) (t : Text → List ℕ) where
   fill_from u b n e =
       ap (λ (c : List ℕ). fill_update c u.number (tail (update_values u))) (sym e)
       ∙ sym (fill-update s u.number (tail (update_values u)) n)
-
--- The messages that are filled in as they are, by their place in the list of messages.
-abbrev pub plain : List ℕ
-plain = 0 ∷ 1 ∷ 2 ∷ 3 ∷ 4 ∷ 6 ∷ 7 ∷ 8 ∷ 9 ∷ 10 ∷ 11 ∷ 12 ∷ 13 ∷ 15 ∷ 16 ∷ 17 ∷ 18 ∷ 19 ∷ 20 ∷ 21 ∷ 22 ∷ 23 ∷ 24 ∷ 25 ∷ 26 ∷ 27 ∷ 28 ∷ 29 ∷ 30 ∷ 31 ∷ 32 ∷ []
-
-pub fill_keeps : (s : Scene) (t : Text → List ℕ) (m : Message) → OneOf plain (place_of m) → plain_values (values_by t m) ≡ fill s (values_by t m)
-fill_keeps s t m h =
-    let k = by_number t m (not_among plain m h update_place tt) in
-    let sound = k.other 5 (not_among plain m h 5 tt) in
-    let client = k.other 14 (not_among plain m h 14 tt) in
-    ap plain_values k.is ∙ ap (λ (b : Bool). cond b [] (number k.n ∷ k.us)) (ap₂ ◌||◌ (ap₂ ◌||◌ k.low sound) client)
-    ∙ sym (fill_plain s k.n k.us k.low sound client) ∙ ap (fill s) (sym k.is)

@@ -1,4 +1,3 @@
-pub mod Ranges
 pub mod Changes
 pub mod Filling
 pub mod Applied

@@ -24,19 +24,18 @@ use dem::limit::{
 use dem::{clientdata, sound, update};
 use dem_parts::Context;
 use dem_types::{
-    Arms, Clientdata, Entity, Look, Message, Motion, Player, Pose, Sound, Supplies, Time, Update,
-    Vector,
+    Arms, Clientdata, Entity, Look, Message, Motion, Player, Pose, Sound, Supplies, Update, Vector,
 };
 use format::limit::TIME_BOUND;
 
-#[derive(Clone, Copy)]
+#[derive(Clone, Copy, PartialEq, Eq)]
 pub struct Baseline {
     pub look: Look,
     pub pose: Pose,
 }
 
 // The latest record of an entity; `bit5` is its update's yes or no.
-#[derive(Clone, Copy)]
+#[derive(Clone, Copy, PartialEq, Eq)]
 pub struct Record {
     pub bit5: bool,
     pub look: Look,
@@ -74,7 +73,7 @@ pub enum Filled {
     Update(Entity, Record),
 }
 
-#[derive(Clone, Copy)]
+#[derive(Clone, Copy, PartialEq, Eq)]
 pub struct PlayerLine {
     pub frags: i16,
     pub colours: u8,
@@ -89,11 +88,13 @@ pub struct Rest {
     pub pause: u8,
     pub statics: u8,
     pub limit: u8,
-    pub time: Time,
+    pub time: Option<u32>,
     pub ended: bool,
     pub players: [PlayerLine; PLAYER_COUNT],
 }
 
+// Three tables and no table of structs: the definitions' views and laws (`Views.scene_with`, `Tables`) may not change, and an update stores a
+// record alone. It has no invariant, since a caller may lend any scene, and one outside its ranges is answered 14.
 #[derive(Clone, Copy)]
 pub struct Scene {
     pub baselines: [Baseline; ENTITY_COUNT],
@@ -103,206 +104,169 @@ pub struct Scene {
     pub rest: Rest,
 }
 
-// The scene after serverinfo; with a limit of 0, the scene at the start.
-pub fn cleared_scene(limit: u8) -> Scene
-    ensures { scene_of result ≡ cleared limit }
-{
-    let look = Look {
-        model: 0,
-        frame: 0,
-        colormap: 0,
-        skin: 0,
+// What an entity has that no message told of.
+const CLEARED_LOOK: Look = Look {
+    model: 0,
+    frame: 0,
+    colormap: 0,
+    skin: 0,
+};
+
+const CLEARED_POSE: Pose = Pose {
+    x: 0,
+    angle0: 0,
+    y: 0,
+    angle1: 0,
+    z: 0,
+    angle2: 0,
+};
+
+impl Baseline {
+    pub const CLEARED: Baseline = Baseline {
+        look: CLEARED_LOOK,
+        pose: CLEARED_POSE,
     };
-    let pose = Pose {
-        x: 0,
-        angle0: 0,
-        y: 0,
-        angle1: 0,
-        z: 0,
-        angle2: 0,
-    };
-    let baseline = Baseline { look, pose };
-    let nothing = Record {
+}
+
+impl Record {
+    pub const CLEARED: Record = Record {
         bit5: false,
-        look,
+        look: CLEARED_LOOK,
         effects: 0,
-        pose,
+        pose: CLEARED_POSE,
     };
-    let baselines = [baseline; ENTITY_COUNT];
-    let records = [nothing; ENTITY_COUNT];
-    let present = [false; ENTITY_COUNT];
-    let rest = cleared_rest(limit);
-    Scene {
-        baselines,
-        records,
-        present,
-        present_count: 0,
-        rest,
-    }
 }
 
-fn cleared_client() -> Client
-    ensures { numbers (client_values result) ≡ zero_clientdata }
-{
-    let motion = Motion {
-        view_height: 0,
-        pitch: 0,
-        punch0: 0,
-        velocity0: 0,
-        punch1: 0,
-        velocity1: 0,
-        punch2: 0,
-        velocity2: 0,
-    };
-    let arms = Arms {
-        weapon_frame: 0,
-        armour: 0,
-        weapon_model: 0,
-    };
-    let supplies = Supplies {
-        health: 0,
-        ammo: 0,
-        count0: 0,
-        count1: 0,
-        count2: 0,
-        count3: 0,
-        weapon: 0,
-    };
-    Client {
-        ground: false,
-        water: false,
-        motion,
-        items: 0,
-        arms,
-        supplies,
-    }
-}
-
-fn cleared_rest(limit: u8) -> Rest
-    ensures { (t : Tables) → scene_with t result ≡ with_tables t (cleared limit) }
-{
-    let stats = [0i32; STAT_COUNT];
-    let client = cleared_client();
-    let view = Entity(0);
-    let line = PlayerLine {
+impl PlayerLine {
+    pub const CLEARED: PlayerLine = PlayerLine {
         frags: 0,
         colours: 0,
     };
-    let players = [line; PLAYER_COUNT];
-    Rest {
-        stats,
-        client,
-        view,
-        pause: 0,
-        statics: 0,
-        limit,
-        time: Time::None,
-        ended: false,
-        players,
+}
+
+impl Client {
+    const CLEARED: Client = Client {
+        ground: false,
+        water: false,
+        motion: Motion {
+            view_height: 0,
+            pitch: 0,
+            punch0: 0,
+            velocity0: 0,
+            punch1: 0,
+            velocity1: 0,
+            punch2: 0,
+            velocity2: 0,
+        },
+        items: 0,
+        arms: Arms {
+            weapon_frame: 0,
+            armour: 0,
+            weapon_model: 0,
+        },
+        supplies: Supplies {
+            health: 0,
+            ammo: 0,
+            count0: 0,
+            count1: 0,
+            count2: 0,
+            count3: 0,
+            weapon: 0,
+        },
+    };
+}
+
+// The scene after serverinfo; with a limit of 0, the scene at the start.
+#[tactic(auto, unfolding(crate::specs::Views::scene_with))]
+pub fn cleared_scene(limit: u8) -> Scene
+    ensures { scene_of result ≡ cleared limit }
+{
+    Scene {
+        baselines: [Baseline::CLEARED; ENTITY_COUNT],
+        records: [Record::CLEARED; ENTITY_COUNT],
+        present: [false; ENTITY_COUNT],
+        present_count: 0,
+        rest: cleared_rest(limit),
     }
 }
 
-fn count_marks(present: [bool; ENTITY_COUNT]) -> usize
-    ensures value { result ≡ count_marks present }
+#[tactic(auto, unfolding(crate::specs::Views::scene_with))]
+fn cleared_rest(limit: u8) -> Rest
+    ensures { (t : Tables) → scene_with t result ≡ with_tables t (cleared limit) }
+{
+    Rest {
+        stats: [0; STAT_COUNT],
+        client: Client::CLEARED,
+        view: Entity(0),
+        pause: 0,
+        statics: 0,
+        limit,
+        time: None,
+        ended: false,
+        players: [PlayerLine::CLEARED; PLAYER_COUNT],
+    }
+}
+
+fn count_marks(present: &[bool; ENTITY_COUNT]) -> usize
+    ensures value { result ≡ count_marks present.now }
     ensures bound { result ≤ entity_count }
 {
-    let mut count: usize = 0;
-    let mut i: usize = 0;
-    while i < ENTITY_COUNT {
-        count += present[i] as usize;
-        i += 1;
+    // Not by filter and count, which take 4 times as long here.
+    let mut count = 0;
+    for set in present {
+        count += usize::from(*set);
     }
     count
 }
 
-// Whether a scene with these marks, this number of them and this rest is in range.
-pub fn in_range(present: [bool; ENTITY_COUNT], count: usize, x: Rest) -> bool
-    ensures value { (t : Tables) → t.present ≡ present → t.present_count ≡ count → result ≡ in_range (scene_with t x) }
-    ensures bound { result ≡ true → count ≤ entity_count }
-{
-    if count != count_marks(present) {
-        return false;
-    }
-    let view = x.view;
-    if ENTITY_BOUND <= view.0 {
-        return false;
-    }
-    if STATIC_LIMIT < x.statics {
-        return false;
-    }
-    if HIGHEST_LIMIT < x.limit {
-        return false;
-    }
-    let time = x.time;
-    match time {
-        Time::None => true,
-        Time::At(bits) => bits < TIME_BOUND,
+impl Scene {
+    // Whether each part is in its range.
+    #[tactic(auto, unfolding(dem::specs::Scene::in_range, crate::specs::Views::scene_with))]
+    pub fn in_range(&self) -> bool
+        ensures value { result ≡ in_range (scene_of self.now) }
+        ensures bound { result ≡ true → self.now.present_count ≤ entity_count }
+    {
+        let x = &self.rest;
+        x.view.0 < ENTITY_BOUND
+            && x.statics <= STATIC_LIMIT
+            && x.limit <= HIGHEST_LIMIT
+            && x.time.is_none_or(|bits| bits < TIME_BOUND)
+            && self.present_count == count_marks(&self.present)
     }
 }
 
-// The numbers of a scene that the layouts of messages depend on.
-pub fn context(x: Rest) -> Context
-    ensures { (t : Tables) → numbers_of result ≡ context_of (scene_with t x) }
-{
-    let time = x.time;
-    Context {
-        limit: x.limit,
-        statics: x.statics,
-        time,
+impl Rest {
+    // The numbers of a scene that the layouts of messages depend on.
+    #[tactic(auto, unfolding(crate::specs::Views::scene_with))]
+    pub fn context(&self) -> Context
+        ensures { (t : Tables) → numbers_of result ≡ context_of (scene_with t self.now) }
+    {
+        Context {
+            limit: self.limit,
+            statics: self.statics,
+            time: self.time,
+        }
     }
 }
 
 // ---- filling in: a field as sent where its bit of the mask is set, or else its default
 
-fn pick(mask: u16, k: u16, sent: u8, other: u8) -> u8
+fn pick<T: Copy>(mask: u16, k: u16, sent: T, other: T) -> T
     requires { k < 16 }
     ensures { result ≡ cond (bit mask k) sent other }
 {
-    if wire::has(mask, k) {
-        return sent;
-    }
-    other
-}
-
-fn pick_char(mask: u16, k: u16, sent: i8, other: i8) -> i8
-    requires { k < 16 }
-    ensures { result ≡ cond (bit mask k) sent other }
-{
-    if wire::has(mask, k) {
-        return sent;
-    }
-    other
-}
-
-fn pick_short(mask: u16, k: u16, sent: i16, other: i16) -> i16
-    requires { k < 16 }
-    ensures { result ≡ cond (bit mask k) sent other }
-{
-    if wire::has(mask, k) {
-        return sent;
-    }
-    other
-}
-
-fn widened(x: u8) -> u16
-    ensures { result ≡ x }
-{
-    x as u16
+    if wire::has(mask, k) { sent } else { other }
 }
 
 fn fill_look(mask: u16, sent: Look, b: Baseline) -> Look
     ensures { look_values result ≡ fill_slots (take 4 (update_slots (baseline_numbers b))) (bit mask) (look_values sent) }
 {
     let other = b.look;
-    let model = pick(mask, update::MODEL, sent.model, other.model);
-    let frame = pick(mask, update::FRAME, sent.frame, other.frame);
-    let colormap = pick(mask, update::COLORMAP, sent.colormap, other.colormap);
-    let skin = pick(mask, update::SKIN, sent.skin, other.skin);
     Look {
-        model,
-        frame,
-        colormap,
-        skin,
+        model: pick(mask, update::MODEL, sent.model, other.model),
+        frame: pick(mask, update::FRAME, sent.frame, other.frame),
+        colormap: pick(mask, update::COLORMAP, sent.colormap, other.colormap),
+        skin: pick(mask, update::SKIN, sent.skin, other.skin),
     }
 }
 
@@ -310,19 +274,13 @@ fn fill_pose(mask: u16, sent: Pose, b: Baseline) -> Pose
     ensures { pose_values result ≡ fill_slots (drop 5 (update_slots (baseline_numbers b))) (bit mask) (pose_values sent) }
 {
     let other = b.pose;
-    let x = pick_short(mask, update::X, sent.x, other.x);
-    let angle0 = pick_char(mask, update::ANGLE0, sent.angle0, other.angle0);
-    let y = pick_short(mask, update::Y, sent.y, other.y);
-    let angle1 = pick_char(mask, update::ANGLE1, sent.angle1, other.angle1);
-    let z = pick_short(mask, update::Z, sent.z, other.z);
-    let angle2 = pick_char(mask, update::ANGLE2, sent.angle2, other.angle2);
     Pose {
-        x,
-        angle0,
-        y,
-        angle1,
-        z,
-        angle2,
+        x: pick(mask, update::X, sent.x, other.x),
+        angle0: pick(mask, update::ANGLE0, sent.angle0, other.angle0),
+        y: pick(mask, update::Y, sent.y, other.y),
+        angle1: pick(mask, update::ANGLE1, sent.angle1, other.angle1),
+        z: pick(mask, update::Z, sent.z, other.z),
+        angle2: pick(mask, update::ANGLE2, sent.angle2, other.angle2),
     }
 }
 
@@ -330,57 +288,42 @@ fn fill_pose(mask: u16, sent: Pose, b: Baseline) -> Pose
 pub fn fill_update(u: Update, b: Baseline) -> Record
     ensures { number Kind.update ∷ number u.entity.0 ∷ record_values result ≡ fill_update (baseline_numbers b) u.number (tail (update_values u)) }
 {
-    let mask = widened(u.high) * 256 + widened(u.number);
-    let bit5 = wire::has(mask, update::RECORD);
-    let look = fill_look(mask, u.look, b);
-    let effects = pick(mask, update::EFFECTS, u.effects, 0);
-    let pose = fill_pose(mask, u.pose, b);
+    let mask = u.mask();
     Record {
-        bit5,
-        look,
-        effects,
-        pose,
+        bit5: wire::has(mask, update::RECORD),
+        look: fill_look(mask, u.look, b),
+        effects: pick(mask, update::EFFECTS, u.effects, 0),
+        pose: fill_pose(mask, u.pose, b),
     }
 }
 
 fn fill_motion(mask: u16, sent: Motion) -> Motion
     ensures { motion_values result ≡ fill_slots (take 8 client_slots) (bit mask) (motion_values sent) }
 {
-    let view_height = pick_char(
-        mask,
-        clientdata::VIEW_HEIGHT,
-        sent.view_height,
-        DEFAULT_VIEW_HEIGHT,
-    );
-    let pitch = pick_char(mask, clientdata::PITCH, sent.pitch, 0);
-    let punch0 = pick_char(mask, clientdata::PUNCH0, sent.punch0, 0);
-    let velocity0 = pick_char(mask, clientdata::VELOCITY0, sent.velocity0, 0);
-    let punch1 = pick_char(mask, clientdata::PUNCH1, sent.punch1, 0);
-    let velocity1 = pick_char(mask, clientdata::VELOCITY1, sent.velocity1, 0);
-    let punch2 = pick_char(mask, clientdata::PUNCH2, sent.punch2, 0);
-    let velocity2 = pick_char(mask, clientdata::VELOCITY2, sent.velocity2, 0);
     Motion {
-        view_height,
-        pitch,
-        punch0,
-        velocity0,
-        punch1,
-        velocity1,
-        punch2,
-        velocity2,
+        view_height: pick(
+            mask,
+            clientdata::VIEW_HEIGHT,
+            sent.view_height,
+            DEFAULT_VIEW_HEIGHT,
+        ),
+        pitch: pick(mask, clientdata::PITCH, sent.pitch, 0),
+        punch0: pick(mask, clientdata::PUNCH0, sent.punch0, 0),
+        velocity0: pick(mask, clientdata::VELOCITY0, sent.velocity0, 0),
+        punch1: pick(mask, clientdata::PUNCH1, sent.punch1, 0),
+        velocity1: pick(mask, clientdata::VELOCITY1, sent.velocity1, 0),
+        punch2: pick(mask, clientdata::PUNCH2, sent.punch2, 0),
+        velocity2: pick(mask, clientdata::VELOCITY2, sent.velocity2, 0),
     }
 }
 
 fn fill_arms(mask: u16, sent: Arms) -> Arms
     ensures { arms_values result ≡ fill_slots (drop 9 client_slots) (bit mask) (arms_values sent) }
 {
-    let weapon_frame = pick(mask, clientdata::WEAPON_FRAME, sent.weapon_frame, 0);
-    let armour = pick(mask, clientdata::ARMOUR, sent.armour, 0);
-    let weapon_model = pick(mask, clientdata::WEAPON_MODEL, sent.weapon_model, 0);
     Arms {
-        weapon_frame,
-        armour,
-        weapon_model,
+        weapon_frame: pick(mask, clientdata::WEAPON_FRAME, sent.weapon_frame, 0),
+        armour: pick(mask, clientdata::ARMOUR, sent.armour, 0),
+        weapon_model: pick(mask, clientdata::WEAPON_MODEL, sent.weapon_model, 0),
     }
 }
 
@@ -388,19 +331,13 @@ fn fill_arms(mask: u16, sent: Arms) -> Arms
 pub fn fill_client(c: Clientdata) -> Client
     ensures { number Kind.clientdata ∷ client_values result ≡ fill_client (sent_client_values c) }
 {
-    let mask = c.mask;
-    let ground = wire::has(mask, clientdata::GROUND);
-    let water = wire::has(mask, clientdata::WATER);
-    let motion = fill_motion(mask, c.motion);
-    let arms = fill_arms(mask, c.arms);
-    let supplies = c.supplies;
     Client {
-        ground,
-        water,
-        motion,
+        ground: wire::has(c.mask, clientdata::GROUND),
+        water: wire::has(c.mask, clientdata::WATER),
+        motion: fill_motion(c.mask, c.motion),
         items: c.items,
-        arms,
-        supplies,
+        arms: fill_arms(c.mask, c.arms),
+        supplies: c.supplies,
     }
 }
 
@@ -408,178 +345,134 @@ pub fn fill_client(c: Clientdata) -> Client
 pub fn fill_sound(s: Sound) -> FilledSound
     ensures { number Kind.sound ∷ filled_sound_values result ≡ fill_sound (sound_values s) }
 {
-    let mask = widened(s.mask);
-    let volume = pick(mask, sound::VOLUME, s.volume, DEFAULT_VOLUME);
-    let attenuation = pick(mask, sound::ATTENUATION, s.attenuation, DEFAULT_ATTENUATION);
-    let entity = s.entity;
-    let origin = s.origin;
+    let mask = u16::from(s.mask);
     FilledSound {
-        volume,
-        attenuation,
+        volume: pick(mask, sound::VOLUME, s.volume, DEFAULT_VOLUME),
+        attenuation: pick(mask, sound::ATTENUATION, s.attenuation, DEFAULT_ATTENUATION),
         channel: s.channel,
-        entity,
+        entity: s.entity,
         sound: s.sound,
-        origin,
+        origin: s.origin,
     }
 }
 
 // An update is filled in from the baseline given. A message without a mask is answered as it is: whatever values v says of messages, if it
 // says this one's, these are told.
+#[tactic(auto, unfolding(dem::specs::Message::fill))]
 pub fn fill_message(m: Message, b: Baseline) -> Filled
     ensures { (s : Described) (v : Message → List Value) (t : Text → List ℕ) → v m ≡ values_by t m → Numbered m → BaselineOf s m b → filled_by v result ≡ fill s (values_by t m) }
 {
     match m {
         Message::Sound(s) => Filled::Sound(fill_sound(s)),
         Message::Clientdata(c) => Filled::Clientdata(fill_client(c)),
-        Message::Update(u) => {
-            let entity = u.entity;
-            Filled::Update(entity, fill_update(u, b))
-        }
+        Message::Update(u) => Filled::Update(u.entity, fill_update(u, b)),
         _ => Filled::Plain(m),
     }
 }
 
-// ---- what messages do to the rest
+// ---- what messages do to the rest. An element is set at its place and not by get_mut, which tells a proof no element afterwards.
 
-fn with_stat(x: Rest, i: u8, v: i32) -> Rest
+#[tactic(auto, unfolding(crate::specs::Views::scene_with, dem::specs::Message::apply))]
+fn with_stat(mut x: Rest, i: u8, v: i32) -> Rest
     ensures { (t : Tables) → scene_with t result ≡ apply (scene_with t x) (number Kind.stat ∷ number i ∷ number (of_z w32 v) ∷ []) }
 {
-    let mut y = x;
-    let at = i as usize;
+    let at = usize::from(i);
     if at < STAT_COUNT {
-        y.stats[at] = v;
+        x.stats[at] = v;
     }
-    y
+    x
 }
 
 // One more, from the highest to the lowest.
-fn raised(x: Rest, i: usize) -> Rest
+#[tactic(auto, unfolding(crate::specs::Views::scene_with))]
+fn raised(mut x: Rest, i: usize) -> Rest
     requires { i < stat_count }
     ensures { (t : Tables) → scene_with t result ≡ with_stats (raise (map (of_z w32) x.stats) i) (scene_with t x) }
 {
-    let mut y = x;
-    let v = x.stats[i];
-    if v == 2147483647 {
-        y.stats[i] = -2147483648;
-    } else {
-        y.stats[i] = v + 1;
-    }
-    y
+    x.stats[i] = x.stats[i].wrapping_add(1);
+    x
 }
 
-fn with_frags(x: Rest, p: Player, v: i16) -> Rest
+#[tactic(auto, unfolding(crate::specs::Views::scene_with, dem::specs::Message::apply))]
+// Two, and none for both fields of a line, which would be no plainer: each is one store, proved against its own message.
+fn with_frags(mut x: Rest, p: Player, v: i16) -> Rest
     ensures { (t : Tables) → scene_with t result ≡ apply (scene_with t x) (number Kind.frags ∷ number p.0 ∷ number (of_z w16 v) ∷ []) }
 {
-    let mut y = x;
-    let at = p.0 as usize;
+    let at = usize::from(p.0);
     if at < PLAYER_COUNT {
-        let line = x.players[at];
-        let changed = PlayerLine {
-            frags: v,
-            colours: line.colours,
-        };
-        y.players[at] = changed;
+        x.players[at].frags = v;
     }
-    y
+    x
 }
 
-fn with_colours(x: Rest, p: Player, v: u8) -> Rest
+#[tactic(auto, unfolding(crate::specs::Views::scene_with, dem::specs::Message::apply))]
+fn with_colours(mut x: Rest, p: Player, v: u8) -> Rest
     ensures { (t : Tables) → scene_with t result ≡ apply (scene_with t x) (number Kind.colours ∷ number p.0 ∷ number v ∷ []) }
 {
-    let mut y = x;
-    let at = p.0 as usize;
+    let at = usize::from(p.0);
     if at < PLAYER_COUNT {
-        let line = x.players[at];
-        let changed = PlayerLine {
-            frags: line.frags,
-            colours: v,
-        };
-        y.players[at] = changed;
+        x.players[at].colours = v;
     }
-    y
+    x
 }
 
 // Stats 0, health, and 2 to 10: weapon model, ammo, armour, weapon frame, four counts, weapon.
-fn client_stats(stats: [i32; STAT_COUNT], c: Client) -> [i32; STAT_COUNT]
+fn client_stats(mut stats: [i32; STAT_COUNT], c: Client) -> [i32; STAT_COUNT]
     ensures { map (of_z w32) result ≡ client_stats (map (of_z w32) stats) (numbers (client_values c)) }
 {
     let arms = c.arms;
     let supplies = c.supplies;
-    let mut s = stats;
-    s[0] = supplies.health as i32;
-    s[2] = arms.weapon_model as i32;
-    s[3] = supplies.ammo as i32;
-    s[4] = arms.armour as i32;
-    s[5] = arms.weapon_frame as i32;
-    s[6] = supplies.count0 as i32;
-    s[7] = supplies.count1 as i32;
-    s[8] = supplies.count2 as i32;
-    s[9] = supplies.count3 as i32;
-    s[10] = supplies.weapon as i32;
-    s
+    stats[0] = i32::from(supplies.health);
+    stats[2] = i32::from(arms.weapon_model);
+    stats[3] = i32::from(supplies.ammo);
+    stats[4] = i32::from(arms.armour);
+    stats[5] = i32::from(arms.weapon_frame);
+    stats[6] = i32::from(supplies.count0);
+    stats[7] = i32::from(supplies.count1);
+    stats[8] = i32::from(supplies.count2);
+    stats[9] = i32::from(supplies.count3);
+    stats[10] = i32::from(supplies.weapon);
+    stats
 }
 
-pub fn with_client(x: Rest, c: Client) -> Rest
+#[tactic(auto, unfolding(crate::specs::Views::scene_with, dem::specs::Message::apply))]
+pub fn with_client(mut x: Rest, c: Client) -> Rest
     ensures { (t : Tables) → scene_with t result ≡ apply (scene_with t x) (number Kind.clientdata ∷ client_values c) }
 {
-    let mut y = x;
-    let before = x.stats;
-    let stats = client_stats(before, c);
-    y.stats = stats;
-    y.client = c;
-    y
+    x.stats = client_stats(x.stats, c);
+    x.client = c;
+    x
 }
 
 // After a time, which also clears the marks.
-pub fn with_time(x: Rest, bits: u32) -> Rest
+#[tactic(auto, unfolding(crate::specs::Views::scene_with, dem::specs::Message::apply))]
+pub fn with_time(mut x: Rest, bits: u32) -> Rest
     ensures { (t : Tables) → scene_with (unmarked t) result ≡ apply (scene_with t x) (number Kind.time ∷ number bits ∷ []) }
 {
-    let stats = x.stats;
-    let client = x.client;
-    let view = x.view;
-    let players = x.players;
-    Rest {
-        stats,
-        client,
-        view,
-        pause: x.pause,
-        statics: x.statics,
-        limit: x.limit,
-        time: Time::At(bits),
-        ended: x.ended,
-        players,
-    }
+    x.time = Some(bits);
+    x
 }
 
 // After any message, whose strings are places in a text. An update and a baseline change no part of it.
+#[tactic(auto, unfolding(crate::specs::Views::scene_with, dem::specs::Message::apply, dem::specs::Message::fill))]
 pub fn apply_rest(x: Rest, m: Message, text: &[u8]) -> Rest
     requires { x.statics < 255 }
     ensures { (t : Tables) → Numbered m → scene_with no_tables result ≡ with_tables no_tables (apply (scene_with t x) (fill (scene_with t x) (values_of text.now m))) }
 {
-    let mut y = x;
     match m {
-        Message::Disconnect => {
-            y.ended = true;
-            y
-        }
+        Message::Disconnect => Rest { ended: true, ..x },
         Message::Stat(i, v) => with_stat(x, i, v),
-        Message::View(e) => {
-            y.view = e;
-            y
-        }
+        Message::View(view) => Rest { view, ..x },
         Message::Time(bits) => with_time(x, bits),
         Message::Serverinfo(s) => cleared_rest(s.limit),
         Message::Frags(p, v) => with_frags(x, p, v),
         Message::Clientdata(c) => with_client(x, fill_client(c)),
         Message::Colours(p, v) => with_colours(x, p, v),
-        Message::Static(_, _) => {
-            y.statics = x.statics + 1;
-            y
-        }
-        Message::Pause(v) => {
-            y.pause = v;
-            y
-        }
+        Message::Static(_, _) => Rest {
+            statics: x.statics + 1,
+            ..x
+        },
+        Message::Pause(pause) => Rest { pause, ..x },
         Message::Killed => raised(x, 14),
         Message::Secret => raised(x, 13),
         _ => x,

@@ -11,7 +11,7 @@ use Rattle.format.specs.Bytes.{Bytes, Result, found, refused}
 use Rattle.dem.specs.Scene.{Scene, in_range}
 use Rattle.format.specs.Codec.{after, WrittenRun, roomless, led, write_on, write_most, normal_bytes}
 use Rattle.dem.specs.Recording.{Block, read_block, blocks, normal_block}
-use Rattle.format.specs.Answer.{result, Written, written, Rewriting}
+use Rattle.format.specs.Answer.{result, Written, Rewriting}
 use Rattle.dem.specs.Answer.{rewriting_of, normal_blocks_at}
 use Rattle.dem.specs.WellFormed.{GoodBlock}
 use Rattle.format.proofs.CodecLaws.{Taken}

@@ -1,5 +1,5 @@
-// The scene as text, by its form for every program that prints one.
+// A scene as text, and a writer of text that takes no heap.
 #![tactic(auto)]
 
 pub mod lines;
-pub mod text;
+pub mod page;

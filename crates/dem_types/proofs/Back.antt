@@ -18,7 +18,7 @@ use Rattle.format.specs.Layout.{Value, number, as_text, numbers, first_number, t
 use Rattle.dem.specs.Scene.{Context}
 use Rattle.dem.specs.Message.{is_update, is_empty, kind_layout, layout}
 use Rattle.format.proofs.LayoutLaws.{Allowed, and_true}
-use Rattle.wire.specs.Cursors.{placed}
+use Rattle.wire.specs.Reads.{placed}
 use Rattle.wire.specs.declared.Text.{Text}
 use Rattle.wire.proofs.FieldLaws.{Held, from, from_front}
 use Rattle.strings.specs.Names.{names_in}

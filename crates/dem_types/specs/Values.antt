@@ -1,18 +1,14 @@
 -- Document 01's number and values of each message as sent.
-use Rattle.std.specs.Prelude.{List, [], ◌∷◌, ◌++◌, ℕ, ℤ}
-use Rattle.std.proofs.Math.Option.{Option, none, some}
+use Rattle.std.specs.Prelude.{List, [], ◌∷◌, ◌++◌, ℕ, ℤ, Option, Some, None}
+use Rattle.std.proofs.Math.Option as Math
 use Rattle.std.proofs.Common.{of_z}
 use Rattle.std.specs.Int.{w8, w16, w32}
 use Rattle.dem.specs.Kind
 use Rattle.format.specs.Layout.{Value, number, text}
 use Rattle.dem.specs.Message.{explosion2_type}
-use Rattle.wire.specs.Cursors.{placed}
+use Rattle.wire.specs.Reads.{placed}
 use Rattle.wire.specs.declared.Text.{Text}
 use Rattle.strings.specs.Names.{names_in}
-use Rattle.dem_types.specs.declared.Player.{Player}
-use Rattle.dem_types.specs.declared.Entity.{Entity}
-use Rattle.dem_types.specs.declared.Time.{Time}
-use Rattle.dem_types.specs.declared.Time.TheVariants.{None, At}
 use Rattle.dem_types.specs.declared.Vector.{Vector}
 use Rattle.dem_types.specs.declared.Look.{Look}
 use Rattle.dem_types.specs.declared.Pose.{Pose}
@@ -126,10 +122,10 @@ values_by t M.Sellscreen = number 33 ∷ []
 values_by t (M.Cutscene p) = number 34 ∷ text (t p) ∷ []
 values_by t (M.Update u) = update_values u
 
--- The scene's time or none.
-abbrev pub time_of : Time → Option ℕ
-time_of None = none
-time_of (At bits) = some bits
+-- The bits of the latest time, or none yet.
+abbrev pub time_of : Option ℕ → Math.Option ℕ
+time_of None = Math.none
+time_of (Some bits) = Math.some bits
 
 -- A message that was read from these bytes.
 abbrev pub values_of : List ℕ → Message → List Value

@@ -1,477 +1,332 @@
 // Readers of the messages without a mask, as sent, from behind their number on.
-#![tactic(auto)]
+#![tactic(auto, unfolding(dem_parts::specs::Kinds::kind_in, dem::specs::Message::kind_layout, format::specs::Layout::parse))]
 
-ghost use Rattle.std.specs.Prelude.{◌≡◌, [], ◌∷◌, ◌&&◌, not};
-ghost use Rattle.std.proofs.Common.{of_z};
-ghost use Rattle.std.specs.Int.{w32};
+ghost use Rattle.std.specs.Prelude.{◌≡◌, [], ◌∷◌, ◌&&◌, ℕ, not, drop};
+ghost use Rattle.std.specs.Int.{cast_unsigned, w32};
 ghost use Rattle.dem.specs.Limits.{player_count, protocol};
+ghost use Rattle.dem.specs.Kind;
+ghost use Rattle.format.specs.Bytes.{read_number};
 ghost use Rattle.format.specs.Layout.{number};
 ghost use Rattle.format.specs.Floats.{not_before, is_time};
 ghost use Rattle.dem.specs.Message.{below, between, equals, point, line, explosion2, explosion2_type};
 ghost use Rattle.dem.specs.Scene.{Context as Numbers};
-ghost use Rattle.wire.specs.Cursors.{gotten, number_at};
-ghost use Rattle.dem_types.specs.Values.{time_of};
-ghost use Rattle.dem_parts.specs.Kinds.{context_of, gotten_message, kind_at, temporary_at};
+ghost use Rattle.wire.specs.Reads.{read_of};
+ghost use Rattle.dem_types.specs.declared.Player.{Player};
+ghost use Rattle.dem_parts.specs.Kinds.{context_of, message_of, kind_in, temporary_in};
 
-use dem::limit::{HIGHEST_LIMIT, PROTOCOL_BITS, STAT_BOUND, STYLE_COUNT, TEMPORARY_TYPE_COUNT};
+use dem::limit::{HIGHEST_LIMIT, PROTOCOL, STAT_BOUND, STYLE_COUNT, TEMPORARY_TYPE_COUNT};
 use dem::temporary::EXPLOSION2;
-use dem_parts::{Context, MessageAt};
-use dem_types::{Entity, Message, Particle, Player, Serverinfo, Temporary, Time};
+use dem_parts::{
+    Context, read_below, read_entity, read_look, read_pose, read_source, read_vector, require,
+};
+use dem_types::{Message, Particle, Player, Serverinfo, Temporary};
 use format::limit::TIME_BOUND;
-use format::refusal::{WRONG_NUMBER, WRONG_TIME};
-use wire::{Byte, Cursor, Long, Number};
+use format::refusal::Refusal;
+use strings::{read_names, read_text};
+use wire::{Read, read};
 
 // Document 01's P.
-fn read_player(s: &[u8], c: Cursor, limit: u8) -> Byte
-    ensures { gotten s.now result.value result.cursor ≡ number_at s.now c 1 (below limit) }
+fn read_player(s: &[u8], at: usize, limit: u8) -> Read<Player>
+    ensures { read_of (λ (p : Player). p.0) s.now result ≡ read_number 1 (below limit) (drop at s.now) }
 {
-    let b = wire::read_byte(s, c);
-    let value = b.value;
-    let cursor = wire::refuse_if(b.cursor, c.at, limit <= value, WRONG_NUMBER);
-    Byte { value, cursor }
+    let (number, at) = read_below(s, at, limit)?;
+    Ok((Player(number), at))
 }
 
 // A protocol number.
-fn read_protocol(s: &[u8], c: Cursor) -> Long
-    ensures { gotten s.now (of_z w32 result.value) result.cursor ≡ number_at s.now c 4 (equals protocol) }
+#[tactic(auto, unfolding(format::specs::Bytes::read_number))]
+fn read_protocol(s: &[u8], at: usize) -> Read<i32>
+    ensures { read_of (cast_unsigned w32) s.now result ≡ read_number 4 (equals protocol) (drop at s.now) }
 {
-    let n = wire::read_number(s, c, 4);
-    let bits = n.value;
-    let cursor = wire::refuse_if(n.cursor, c.at, bits != PROTOCOL_BITS, WRONG_NUMBER);
-    let value = wire::signed32(bits);
-    Long { value, cursor }
+    let (number, next) = read::<i32>(s, at)?;
+    require(number == PROTOCOL, Refusal::WrongNumber, at)?;
+    Ok((number, next))
 }
 
 // A player limit: 1 to the highest.
-fn read_limit(s: &[u8], c: Cursor) -> Byte
-    ensures { gotten s.now result.value result.cursor ≡ number_at s.now c 1 (between 1 player_count) }
+#[tactic(auto, unfolding(format::specs::Bytes::read_number))]
+fn read_limit(s: &[u8], at: usize) -> Read<u8>
+    ensures { read_of (λ (n : ℕ). n) s.now result ≡ read_number 1 (between 1 player_count) (drop at s.now) }
 {
-    let b = wire::read_byte(s, c);
-    let value = b.value;
-    let ruled = wire::refuse_if(b.cursor, c.at, value < 1, WRONG_NUMBER);
-    let cursor = wire::refuse_if(ruled, c.at, HIGHEST_LIMIT < value, WRONG_NUMBER);
-    Byte { value, cursor }
-}
-
-// Whether bits are smaller than those of the time before, if there is one.
-fn is_early(bits: u32, latest: Time) -> bool
-    ensures { result ≡ not (not_before (time_of latest) bits) }
-{
-    match latest {
-        Time::None => false,
-        Time::At(time) => bits < time,
-    }
+    let (limit, next) = read::<u8>(s, at)?;
+    let is_met = (1..=HIGHEST_LIMIT).contains(&limit);
+    require(is_met, Refusal::WrongNumber, at)?;
+    Ok((limit, next))
 }
 
 // Sign set, or exponent 255, or bits smaller than those of the time before.
 pub fn is_wrong_time(bits: u32, x: Context) -> bool
     ensures { result ≡ not (is_time bits && not_before (context_of x).time bits) }
 {
-    let latest = x.time;
-    is_early(bits, latest) | (TIME_BOUND <= bits)
+    x.time.is_some_and(|time| bits < time) || TIME_BOUND <= bits
 }
 
-pub fn read_stat(s: &[u8], c: Cursor, x: Context) -> MessageAt
-    ensures { gotten_message s.now result ≡ kind_at s.now c (context_of x) 3 }
+pub fn read_stat(s: &[u8], at: usize) -> Read<Message>
+    ensures { (x : Numbers) → message_of s.now result ≡ kind_in x Kind.stat (drop at s.now) }
 {
-    let i = wire::read_byte(s, c);
-    let index = i.value;
-    let ruled = wire::refuse_if(i.cursor, c.at, STAT_BOUND <= index, WRONG_NUMBER);
-    let v = wire::read_long(s, ruled);
-    let cursor = v.cursor;
-    MessageAt {
-        message: Message::Stat(index, v.value),
-        cursor,
-    }
+    let (index, at) = read_below(s, at, STAT_BOUND)?;
+    let (value, at) = read(s, at)?;
+    Ok((Message::Stat(index, value), at))
 }
 
-pub fn read_version(s: &[u8], c: Cursor, x: Context) -> MessageAt
-    ensures { gotten_message s.now result ≡ kind_at s.now c (context_of x) 4 }
+pub fn read_version(s: &[u8], at: usize) -> Read<Message>
+    ensures { (x : Numbers) → message_of s.now result ≡ kind_in x 4 (drop at s.now) }
 {
-    let v = read_protocol(s, c);
-    let cursor = v.cursor;
-    MessageAt {
-        message: Message::Version(v.value),
-        cursor,
-    }
+    let (protocol, at) = read_protocol(s, at)?;
+    Ok((Message::Version(protocol), at))
 }
 
-pub fn read_view(s: &[u8], c: Cursor, x: Context) -> MessageAt
-    ensures { gotten_message s.now result ≡ kind_at s.now c (context_of x) 5 }
+pub fn read_view(s: &[u8], at: usize) -> Read<Message>
+    ensures { (x : Numbers) → message_of s.now result ≡ kind_in x Kind.view (drop at s.now) }
 {
-    let e = dem_parts::read_entity(s, c);
-    let entity = Entity(e.value);
-    let cursor = e.cursor;
-    MessageAt {
-        message: Message::View(entity),
-        cursor,
-    }
+    let (entity, at) = read_entity(s, at)?;
+    Ok((Message::View(entity), at))
 }
 
 // The bits of a time, not before the one before.
-pub fn time_at(s: &[u8], c: Cursor, x: Context) -> Number
-    ensures { gotten s.now (number 7 ∷ number result.value ∷ []) result.cursor ≡ kind_at s.now c (context_of x) 7 }
+#[tactic(auto, unfolding(dem_parts::specs::Kinds::kind_in, dem::specs::Message::kind_layout, format::specs::Layout::parse, format::specs::Bytes::read_number))]
+pub fn time_at(s: &[u8], at: usize, x: Context) -> Read<u32>
+    ensures { read_of (λ (bits : ℕ). number 7 ∷ number bits ∷ []) s.now result ≡ kind_in (context_of x) Kind.time (drop at s.now) }
 {
-    let n = wire::read_number(s, c, 4);
-    let bits = n.value;
-    let wrong = is_wrong_time(bits, x);
-    let cursor = wire::refuse_if(n.cursor, c.at, wrong, WRONG_TIME);
-    Number {
-        value: bits,
-        cursor,
-    }
+    let (bits, next) = read::<u32>(s, at)?;
+    require(!is_wrong_time(bits, x), Refusal::WrongTime, at)?;
+    Ok((bits, next))
 }
 
-pub fn read_time(s: &[u8], c: Cursor, x: Context) -> MessageAt
-    ensures { gotten_message s.now result ≡ kind_at s.now c (context_of x) 7 }
+pub fn read_time(s: &[u8], at: usize, x: Context) -> Read<Message>
+    ensures { message_of s.now result ≡ kind_in (context_of x) Kind.time (drop at s.now) }
 {
-    let t = time_at(s, c, x);
-    let bits = t.value;
-    let cursor = t.cursor;
-    MessageAt {
-        message: Message::Time(bits),
-        cursor,
-    }
+    let (bits, at) = time_at(s, at, x)?;
+    Ok((Message::Time(bits), at))
 }
 
-pub fn read_print(s: &[u8], c: Cursor, x: Context) -> MessageAt
-    ensures { gotten_message s.now result ≡ kind_at s.now c (context_of x) 8 }
+// Five messages are one string each, and two one byte: one reader given the constructor would take its number too and ask that they fit, no plainer.
+pub fn read_print(s: &[u8], at: usize) -> Read<Message>
+    ensures { (x : Numbers) → message_of s.now result ≡ kind_in x 8 (drop at s.now) }
 {
-    let t = strings::read_text(s, c);
-    let text = t.text;
-    let cursor = t.cursor;
-    MessageAt {
-        message: Message::Print(text),
-        cursor,
-    }
+    let (text, at) = read_text(s, at)?;
+    Ok((Message::Print(text), at))
 }
 
-pub fn read_stufftext(s: &[u8], c: Cursor, x: Context) -> MessageAt
-    ensures { gotten_message s.now result ≡ kind_at s.now c (context_of x) 9 }
+pub fn read_stufftext(s: &[u8], at: usize) -> Read<Message>
+    ensures { (x : Numbers) → message_of s.now result ≡ kind_in x 9 (drop at s.now) }
 {
-    let t = strings::read_text(s, c);
-    let text = t.text;
-    let cursor = t.cursor;
-    MessageAt {
-        message: Message::Stufftext(text),
-        cursor,
-    }
+    let (text, at) = read_text(s, at)?;
+    Ok((Message::Stufftext(text), at))
 }
 
-pub fn read_angles(s: &[u8], c: Cursor, x: Context) -> MessageAt
-    ensures { gotten_message s.now result ≡ kind_at s.now c (context_of x) 10 }
+pub fn read_angles(s: &[u8], at: usize) -> Read<Message>
+    ensures { (x : Numbers) → message_of s.now result ≡ kind_in x 10 (drop at s.now) }
 {
-    let a = wire::read_char(s, c);
-    let b = wire::read_char(s, a.cursor);
-    let d = wire::read_char(s, b.cursor);
-    let cursor = d.cursor;
-    MessageAt {
-        message: Message::SetAngles(a.value, b.value, d.value),
-        cursor,
-    }
+    let (a, at) = read(s, at)?;
+    let (b, at) = read(s, at)?;
+    let (c, at) = read(s, at)?;
+    Ok((Message::SetAngles(a, b, c), at))
 }
 
-pub fn read_serverinfo(s: &[u8], c: Cursor, x: Context) -> MessageAt
-    ensures { gotten_message s.now result ≡ kind_at s.now c (context_of x) 11 }
+pub fn read_serverinfo(s: &[u8], at: usize) -> Read<Message>
+    ensures { (x : Numbers) → message_of s.now result ≡ kind_in x Kind.serverinfo (drop at s.now) }
 {
-    let p = read_protocol(s, c);
-    let l = read_limit(s, p.cursor);
-    let g = wire::read_byte(s, l.cursor);
-    let m = strings::read_text(s, g.cursor);
-    let n = strings::read_names(s, m.cursor);
-    let map = m.text;
-    let names = n.text;
+    let (protocol, at) = read_protocol(s, at)?;
+    let (limit, at) = read_limit(s, at)?;
+    let (game, at) = read(s, at)?;
+    let (map, at) = read_text(s, at)?;
+    let (names, at) = read_names(s, at)?;
     let info = Serverinfo {
-        protocol: p.value,
-        limit: l.value,
-        game: g.value,
+        protocol,
+        limit,
+        game,
         map,
         names,
     };
-    let cursor = n.cursor;
-    MessageAt {
-        message: Message::Serverinfo(info),
-        cursor,
-    }
+    Ok((Message::Serverinfo(info), at))
 }
 
-pub fn read_style(s: &[u8], c: Cursor, x: Context) -> MessageAt
-    ensures { gotten_message s.now result ≡ kind_at s.now c (context_of x) 12 }
+pub fn read_style(s: &[u8], at: usize) -> Read<Message>
+    ensures { (x : Numbers) → message_of s.now result ≡ kind_in x 12 (drop at s.now) }
 {
-    let i = wire::read_byte(s, c);
-    let index = i.value;
-    let ruled = wire::refuse_if(i.cursor, c.at, STYLE_COUNT <= index, WRONG_NUMBER);
-    let t = strings::read_text(s, ruled);
-    let text = t.text;
-    let cursor = t.cursor;
-    MessageAt {
-        message: Message::Style(index, text),
-        cursor,
-    }
+    let (index, at) = read_below(s, at, STYLE_COUNT)?;
+    let (text, at) = read_text(s, at)?;
+    Ok((Message::Style(index, text), at))
 }
 
-pub fn read_name(s: &[u8], c: Cursor, x: Context) -> MessageAt
-    ensures { gotten_message s.now result ≡ kind_at s.now c (context_of x) 13 }
+pub fn read_name(s: &[u8], at: usize, x: Context) -> Read<Message>
+    ensures { message_of s.now result ≡ kind_in (context_of x) 13 (drop at s.now) }
 {
-    let p = read_player(s, c, x.limit);
-    let t = strings::read_text(s, p.cursor);
-    let player = Player(p.value);
-    let text = t.text;
-    let cursor = t.cursor;
-    MessageAt {
-        message: Message::Name(player, text),
-        cursor,
-    }
+    let (player, at) = read_player(s, at, x.limit)?;
+    let (name, at) = read_text(s, at)?;
+    Ok((Message::Name(player, name), at))
 }
 
-pub fn read_frags(s: &[u8], c: Cursor, x: Context) -> MessageAt
-    ensures { gotten_message s.now result ≡ kind_at s.now c (context_of x) 14 }
+pub fn read_frags(s: &[u8], at: usize, x: Context) -> Read<Message>
+    ensures { message_of s.now result ≡ kind_in (context_of x) Kind.frags (drop at s.now) }
 {
-    let p = read_player(s, c, x.limit);
-    let f = wire::read_short(s, p.cursor);
-    let player = Player(p.value);
-    let cursor = f.cursor;
-    MessageAt {
-        message: Message::Frags(player, f.value),
-        cursor,
-    }
+    let (player, at) = read_player(s, at, x.limit)?;
+    let (frags, at) = read(s, at)?;
+    Ok((Message::Frags(player, frags), at))
 }
 
-pub fn read_stopsound(s: &[u8], c: Cursor, x: Context) -> MessageAt
-    ensures { gotten_message s.now result ≡ kind_at s.now c (context_of x) 16 }
+pub fn read_stopsound(s: &[u8], at: usize) -> Read<Message>
+    ensures { (x : Numbers) → message_of s.now result ≡ kind_in x 16 (drop at s.now) }
 {
-    let source = dem_parts::read_source(s, c);
-    let entity = source.entity;
-    let cursor = source.cursor;
-    MessageAt {
-        message: Message::Stopsound(source.channel, entity),
-        cursor,
-    }
+    let (source, at) = read_source(s, at)?;
+    Ok((Message::Stopsound(source.channel, source.entity), at))
 }
 
-pub fn read_colours(s: &[u8], c: Cursor, x: Context) -> MessageAt
-    ensures { gotten_message s.now result ≡ kind_at s.now c (context_of x) 17 }
+pub fn read_colours(s: &[u8], at: usize, x: Context) -> Read<Message>
+    ensures { message_of s.now result ≡ kind_in (context_of x) Kind.colours (drop at s.now) }
 {
-    let p = read_player(s, c, x.limit);
-    let b = wire::read_byte(s, p.cursor);
-    let player = Player(p.value);
-    let cursor = b.cursor;
-    MessageAt {
-        message: Message::Colours(player, b.value),
-        cursor,
-    }
+    let (player, at) = read_player(s, at, x.limit)?;
+    let (colours, at) = read(s, at)?;
+    Ok((Message::Colours(player, colours), at))
 }
 
-pub fn read_particle(s: &[u8], c: Cursor, x: Context) -> MessageAt
-    ensures { gotten_message s.now result ≡ kind_at s.now c (context_of x) 18 }
+pub fn read_particle(s: &[u8], at: usize) -> Read<Message>
+    ensures { (x : Numbers) → message_of s.now result ≡ kind_in x 18 (drop at s.now) }
 {
-    let o = dem_parts::read_vector(s, c);
-    let a = wire::read_char(s, o.cursor);
-    let b = wire::read_char(s, a.cursor);
-    let d = wire::read_char(s, b.cursor);
-    let n = wire::read_byte(s, d.cursor);
-    let k = wire::read_byte(s, n.cursor);
-    let origin = o.vector;
+    let (origin, at) = read_vector(s, at)?;
+    let (direction0, at) = read(s, at)?;
+    let (direction1, at) = read(s, at)?;
+    let (direction2, at) = read(s, at)?;
+    let (count, at) = read(s, at)?;
+    let (colour, at) = read(s, at)?;
     let particle = Particle {
         origin,
-        direction0: a.value,
-        direction1: b.value,
-        direction2: d.value,
-        count: n.value,
-        colour: k.value,
+        direction0,
+        direction1,
+        direction2,
+        count,
+        colour,
     };
-    let cursor = k.cursor;
-    MessageAt {
-        message: Message::Particle(particle),
-        cursor,
-    }
+    Ok((Message::Particle(particle), at))
 }
 
-pub fn read_damage(s: &[u8], c: Cursor, x: Context) -> MessageAt
-    ensures { gotten_message s.now result ≡ kind_at s.now c (context_of x) 19 }
+pub fn read_damage(s: &[u8], at: usize) -> Read<Message>
+    ensures { (x : Numbers) → message_of s.now result ≡ kind_in x 19 (drop at s.now) }
 {
-    let a = wire::read_byte(s, c);
-    let b = wire::read_byte(s, a.cursor);
-    let o = dem_parts::read_vector(s, b.cursor);
-    let origin = o.vector;
-    let cursor = o.cursor;
-    MessageAt {
-        message: Message::Damage(a.value, b.value, origin),
-        cursor,
-    }
+    let (armour, at) = read(s, at)?;
+    let (blood, at) = read(s, at)?;
+    let (origin, at) = read_vector(s, at)?;
+    Ok((Message::Damage(armour, blood, origin), at))
 }
 
-pub fn read_static(s: &[u8], c: Cursor, x: Context) -> MessageAt
-    ensures { gotten_message s.now result ≡ kind_at s.now c (context_of x) 20 }
+pub fn read_static(s: &[u8], at: usize) -> Read<Message>
+    ensures { (x : Numbers) → message_of s.now result ≡ kind_in x Kind.static (drop at s.now) }
 {
-    let l = dem_parts::read_look(s, c);
-    let p = dem_parts::read_pose(s, l.cursor);
-    let look = l.look;
-    let pose = p.pose;
-    let cursor = p.cursor;
-    MessageAt {
-        message: Message::Static(look, pose),
-        cursor,
-    }
+    let (look, at) = read_look(s, at)?;
+    let (pose, at) = read_pose(s, at)?;
+    Ok((Message::Static(look, pose), at))
 }
 
-pub fn read_baseline(s: &[u8], c: Cursor, x: Context) -> MessageAt
-    ensures { gotten_message s.now result ≡ kind_at s.now c (context_of x) 22 }
+pub fn read_baseline(s: &[u8], at: usize) -> Read<Message>
+    ensures { (x : Numbers) → message_of s.now result ≡ kind_in x Kind.baseline (drop at s.now) }
 {
-    let e = dem_parts::read_entity(s, c);
-    let l = dem_parts::read_look(s, e.cursor);
-    let p = dem_parts::read_pose(s, l.cursor);
-    let entity = Entity(e.value);
-    let look = l.look;
-    let pose = p.pose;
-    let cursor = p.cursor;
-    MessageAt {
-        message: Message::Baseline(entity, look, pose),
-        cursor,
-    }
+    let (entity, at) = read_entity(s, at)?;
+    let (look, at) = read_look(s, at)?;
+    let (pose, at) = read_pose(s, at)?;
+    Ok((Message::Baseline(entity, look, pose), at))
 }
 
-fn read_point(s: &[u8], c: Cursor, kind: u8) -> MessageAt
-    ensures { (x : Numbers) → gotten_message s.now result ≡ temporary_at s.now c x kind point }
+// ---- a temporary entity, from behind its type on
+
+#[tactic(auto, unfolding(dem_parts::specs::Kinds::temporary_in, format::specs::Layout::parse))]
+fn read_point(s: &[u8], at: usize, kind: u8) -> Read<Message>
+    ensures { (x : Numbers) → message_of s.now result ≡ temporary_in x kind point (drop at s.now) }
 {
-    let o = dem_parts::read_vector(s, c);
-    let origin = o.vector;
-    let cursor = o.cursor;
-    let point = Temporary::Point(kind, origin);
-    MessageAt {
-        message: Message::Temporary(point),
-        cursor,
-    }
+    let (origin, at) = read_vector(s, at)?;
+    Ok((Message::Temporary(Temporary::Point(kind, origin)), at))
 }
 
-fn read_line(s: &[u8], c: Cursor, kind: u8) -> MessageAt
-    ensures { (x : Numbers) → gotten_message s.now result ≡ temporary_at s.now c x kind line }
+#[tactic(auto, unfolding(dem_parts::specs::Kinds::temporary_in, format::specs::Layout::parse))]
+fn read_line(s: &[u8], at: usize, kind: u8) -> Read<Message>
+    ensures { (x : Numbers) → message_of s.now result ≡ temporary_in x kind line (drop at s.now) }
 {
-    let e = dem_parts::read_entity(s, c);
-    let a = dem_parts::read_vector(s, e.cursor);
-    let b = dem_parts::read_vector(s, a.cursor);
-    let entity = Entity(e.value);
-    let start = a.vector;
-    let end = b.vector;
-    let cursor = b.cursor;
-    let line = Temporary::Line(kind, entity, start, end);
-    MessageAt {
-        message: Message::Temporary(line),
-        cursor,
-    }
+    let (entity, at) = read_entity(s, at)?;
+    let (start, at) = read_vector(s, at)?;
+    let (end, at) = read_vector(s, at)?;
+    Ok((
+        Message::Temporary(Temporary::Line(kind, entity, start, end)),
+        at,
+    ))
 }
 
-fn read_explosion2(s: &[u8], c: Cursor) -> MessageAt
-    ensures { (x : Numbers) → gotten_message s.now result ≡ temporary_at s.now c x explosion2_type explosion2 }
+#[tactic(auto, unfolding(dem_parts::specs::Kinds::temporary_in, format::specs::Layout::parse))]
+fn read_explosion2(s: &[u8], at: usize) -> Read<Message>
+    ensures { (x : Numbers) → message_of s.now result ≡ temporary_in x explosion2_type explosion2 (drop at s.now) }
 {
-    let o = dem_parts::read_vector(s, c);
-    let first = wire::read_byte(s, o.cursor);
-    let count = wire::read_byte(s, first.cursor);
-    let origin = o.vector;
-    let cursor = count.cursor;
-    let explosion2 = Temporary::Explosion2(origin, first.value, count.value);
-    MessageAt {
-        message: Message::Temporary(explosion2),
-        cursor,
-    }
+    let (origin, at) = read_vector(s, at)?;
+    let (first, at) = read(s, at)?;
+    let (count, at) = read(s, at)?;
+    Ok((
+        Message::Temporary(Temporary::Explosion2(origin, first, count)),
+        at,
+    ))
 }
 
-pub fn read_temporary(s: &[u8], c: Cursor, x: Context) -> MessageAt
-    ensures { gotten_message s.now result ≡ kind_at s.now c (context_of x) 23 }
+pub fn read_temporary(s: &[u8], at: usize) -> Read<Message>
+    ensures { (x : Numbers) → message_of s.now result ≡ kind_in x Kind.temporary (drop at s.now) }
 {
-    let k = wire::read_byte(s, c);
-    let kind = k.value;
-    let ruled = wire::refuse_if(k.cursor, c.at, TEMPORARY_TYPE_COUNT <= kind, WRONG_NUMBER);
+    let (kind, at) = read_below(s, at, TEMPORARY_TYPE_COUNT)?;
     if dem_types::is_line(kind) {
-        return read_line(s, ruled, kind);
-    }
-    if kind == EXPLOSION2 {
-        return read_explosion2(s, ruled);
-    }
-    read_point(s, ruled, kind)
-}
-
-pub fn read_pause(s: &[u8], c: Cursor, x: Context) -> MessageAt
-    ensures { gotten_message s.now result ≡ kind_at s.now c (context_of x) 24 }
-{
-    let b = wire::read_byte(s, c);
-    let cursor = b.cursor;
-    MessageAt {
-        message: Message::Pause(b.value),
-        cursor,
+        read_line(s, at, kind)
+    } else if kind == EXPLOSION2 {
+        read_explosion2(s, at)
+    } else {
+        read_point(s, at, kind)
     }
 }
 
-pub fn read_signon(s: &[u8], c: Cursor, x: Context) -> MessageAt
-    ensures { gotten_message s.now result ≡ kind_at s.now c (context_of x) 25 }
+// ----
+
+pub fn read_pause(s: &[u8], at: usize) -> Read<Message>
+    ensures { (x : Numbers) → message_of s.now result ≡ kind_in x Kind.pause (drop at s.now) }
 {
-    let b = wire::read_byte(s, c);
-    let cursor = b.cursor;
-    MessageAt {
-        message: Message::Signon(b.value),
-        cursor,
-    }
+    let (value, at) = read(s, at)?;
+    Ok((Message::Pause(value), at))
 }
 
-pub fn read_centerprint(s: &[u8], c: Cursor, x: Context) -> MessageAt
-    ensures { gotten_message s.now result ≡ kind_at s.now c (context_of x) 26 }
+pub fn read_signon(s: &[u8], at: usize) -> Read<Message>
+    ensures { (x : Numbers) → message_of s.now result ≡ kind_in x 25 (drop at s.now) }
 {
-    let t = strings::read_text(s, c);
-    let text = t.text;
-    let cursor = t.cursor;
-    MessageAt {
-        message: Message::Centerprint(text),
-        cursor,
-    }
+    let (value, at) = read(s, at)?;
+    Ok((Message::Signon(value), at))
 }
 
-pub fn read_static_sound(s: &[u8], c: Cursor, x: Context) -> MessageAt
-    ensures { gotten_message s.now result ≡ kind_at s.now c (context_of x) 29 }
+pub fn read_centerprint(s: &[u8], at: usize) -> Read<Message>
+    ensures { (x : Numbers) → message_of s.now result ≡ kind_in x 26 (drop at s.now) }
 {
-    let o = dem_parts::read_vector(s, c);
-    let n = wire::read_byte(s, o.cursor);
-    let v = wire::read_byte(s, n.cursor);
-    let a = wire::read_byte(s, v.cursor);
-    let origin = o.vector;
-    let cursor = a.cursor;
-    MessageAt {
-        message: Message::StaticSound(origin, n.value, v.value, a.value),
-        cursor,
-    }
+    let (text, at) = read_text(s, at)?;
+    Ok((Message::Centerprint(text), at))
 }
 
-pub fn read_finale(s: &[u8], c: Cursor, x: Context) -> MessageAt
-    ensures { gotten_message s.now result ≡ kind_at s.now c (context_of x) 31 }
+pub fn read_static_sound(s: &[u8], at: usize) -> Read<Message>
+    ensures { (x : Numbers) → message_of s.now result ≡ kind_in x 29 (drop at s.now) }
 {
-    let t = strings::read_text(s, c);
-    let text = t.text;
-    let cursor = t.cursor;
-    MessageAt {
-        message: Message::Finale(text),
-        cursor,
-    }
+    let (origin, at) = read_vector(s, at)?;
+    let (sound, at) = read(s, at)?;
+    let (volume, at) = read(s, at)?;
+    let (attenuation, at) = read(s, at)?;
+    Ok((Message::StaticSound(origin, sound, volume, attenuation), at))
 }
 
-pub fn read_track(s: &[u8], c: Cursor, x: Context) -> MessageAt
-    ensures { gotten_message s.now result ≡ kind_at s.now c (context_of x) 32 }
+pub fn read_finale(s: &[u8], at: usize) -> Read<Message>
+    ensures { (x : Numbers) → message_of s.now result ≡ kind_in x 31 (drop at s.now) }
 {
-    let a = wire::read_byte(s, c);
-    let b = wire::read_byte(s, a.cursor);
-    let cursor = b.cursor;
-    MessageAt {
-        message: Message::Track(a.value, b.value),
-        cursor,
-    }
+    let (text, at) = read_text(s, at)?;
+    Ok((Message::Finale(text), at))
 }
 
-pub fn read_cutscene(s: &[u8], c: Cursor, x: Context) -> MessageAt
-    ensures { gotten_message s.now result ≡ kind_at s.now c (context_of x) 34 }
+pub fn read_track(s: &[u8], at: usize) -> Read<Message>
+    ensures { (x : Numbers) → message_of s.now result ≡ kind_in x 32 (drop at s.now) }
 {
-    let t = strings::read_text(s, c);
-    let text = t.text;
-    let cursor = t.cursor;
-    MessageAt {
-        message: Message::Cutscene(text),
-        cursor,
-    }
+    let (track, at) = read(s, at)?;
+    let (looped, at) = read(s, at)?;
+    Ok((Message::Track(track, looped), at))
+}
+
+pub fn read_cutscene(s: &[u8], at: usize) -> Read<Message>
+    ensures { (x : Numbers) → message_of s.now result ≡ kind_in x 34 (drop at s.now) }
+{
+    let (text, at) = read_text(s, at)?;
+    Ok((Message::Cutscene(text), at))
 }

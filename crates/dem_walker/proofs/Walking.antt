@@ -11,41 +11,42 @@ use Rattle.dem.specs.Scene.{Scene, in_range}
 use Rattle.dem.specs.Message.{Message, fill, apply}
 use Rattle.dem.specs.WellFormed.{GoodMessage}
 use Rattle.format.specs.Codec.{read_all, fill_all, apply_all}
-use Rattle.format.specs.Answer.{place_in, Answer, result, at_end, refusal, Item, Reply, reply}
+use Rattle.format.specs.Answer.{place_in, Answer, result, at_end, refusal, Item, Reply as Told, reply}
 use Rattle.dem.specs.Recording.{messages}
 use Rattle.dem.specs.Answer.{message_at}
 use Rattle.format.proofs.ResultLaws.{clash}
 use Rattle.format.proofs.CallLaws.{Asked, asked_wrong, asked_end, asked_past, asked_found, asked_refused, asked, FoundItem, found-told, all_end, all-refused, all_found}
 use Rattle.dem.proofs.BlockLaws.{message_lawful}
 use Rattle.dem.proofs.RangeLaws.{message_range}
-use Rattle.dem_types.specs.declared.Message.{Message as Sent}
 use Rattle.dem_types.specs.Places.{values_to}
 use Rattle.dem_types.specs.Values.{values_of}
 use Rattle.dem_scene.specs.Views.{scene_of, filled_by}
-use Rattle.dem_scene.specs.declared.Filled.{Filled}
 use Rattle.dem_scene.specs.declared.Scene.{Scene as Held}
 use Rattle.dem_messages.specs.Replies.{answer_of, reply_of}
-use Rattle.dem_messages.specs.declared.MessageAnswer.{MessageAnswer}
-use Rattle.dem_messages.specs.declared.MessageAnswer.TheVariants.{Found, End, Refused}
-use Rattle.dem_messages.specs.declared.MessageReply.{MessageReply}
+use Rattle.std.specs.Prelude as Rust
+use Rattle.std.specs.Prelude.{Option, None, Some, Ok, Err}
+use Rattle.format.specs.declared.refusal.Refused.{Refused}
+use Rattle.format.specs.Refusals.{number_of}
+use Rattle.dem_messages.specs.declared.Found.{Found}
+use Rattle.dem_messages.specs.declared.Reply.{Reply}
 use Rattle.dem_messages.proofs.Messages.{found-reply-at}
 use Rattle.dem_walker.specs.Walks.{moved_to, place_after, stepped, step_at, walk, walk_from, walk_all}
 
 abbrev R : Type 0
-R = Reply Scene (Item Message Message)
+R = Told Scene (Item Message Message)
 
 abbrev A : Type 0
 A = Answer (Item Message Message)
 
 -- ---- one step
 
-placed-after : (s : List ℕ) (at : ℕ) (a : MessageAnswer) → place_after at a ≡ moved_to at (answer_of s a)
-placed-after s at (Found m f next) = refl
-placed-after s at End = refl
-placed-after s at (Refused n p) = refl
+placed-after : (s : List ℕ) (at : ℕ) (a : Rust.Result (Option Found) Refused) → place_after at a ≡ moved_to at (answer_of s a)
+placed-after s at (Ok (Some f)) = refl
+placed-after s at (Ok None) = refl
+placed-after s at (Err r) = refl
 
 -- By what the reader answered, and the place that goes with it.
-pub step_is : (t : Scene) (s : List ℕ) (at : ℕ) (r : MessageReply) → reply_of s r ≡ message_at t s at → (next : ℕ) → next ≡ place_after at r.answer
+pub step_is : (t : Scene) (s : List ℕ) (at : ℕ) (r : Reply (Option Found)) → reply_of s r ≡ message_at t s at → (next : ℕ) → next ≡ place_after at r.answer
     → stepped (reply_of s r) next ≡ step_at t s at
 step_is t s at r e next to =
     ap (stepped (reply_of s r)) (to ∙ placed-after s at r.answer) ∙ ap (λ (q : R). stepped q (moved_to at q.answer)) e
@@ -139,22 +140,22 @@ module _ (given : Scene) (block : List ℕ) (bytes : Bytes block) (s : Scene) (a
           ∙ ap (walk_from given block s n) (all-refused messages s block at GoodMessage message_lawful bytes h j left e))
 
 -- By what `read_message_at` answered behind n messages.
-module _ (given : Held) (block : List ℕ) (bytes : Bytes block) (s : Held) (at n : ℕ) (g : Going (scene_of given) block (scene_of s) at n) (r : MessageReply)
+module _ (given : Held) (block : List ℕ) (bytes : Bytes block) (s : Held) (at n : ℕ) (g : Going (scene_of given) block (scene_of s) at n) (r : Reply (Option Found))
     (read : reply_of block r ≡ message_at (scene_of s) block at) where
   abbrev Ahead : ℕ → Type 0
   Ahead next = Going (scene_of given) block (scene_of r.scene) next (n + 1) × (at < next)
 
-  pub found_ahead : (m : Sent) (f : Filled) (next : ℕ) → r.answer ≡ Found m f next → Ahead next
-  found_ahead m f next was =
-      let i : Item Message Message = record { sent = values_of block m; filled = filled_by (values_to block next) f; next = next } in
-      let it = found-reply-at (scene_of s) block at bytes r m f next read was in
+  pub found_ahead : (f : Found) → r.answer ≡ Ok (Some f) → Ahead f.next
+  found_ahead f was =
+      let i : Item Message Message = record { sent = values_of block f.message; filled = filled_by (values_to block f.next) f.filled; next = f.next } in
+      let it = found-reply-at (scene_of s) block at bytes r f read was in
       (goes_on (scene_of given) block bytes (scene_of s) at n g (scene_of r.scene) i it, it.on)
 
-  answered : (a : MessageAnswer) → r.answer ≡ a → (message_at (scene_of s) block at).answer ≡ answer_of block a
+  answered : (a : Rust.Result (Option Found) Refused) → r.answer ≡ a → (message_at (scene_of s) block at).answer ≡ answer_of block a
   answered a was = sym (ap answer_of_lem read) ∙ ap (answer_of block) was
 
-  pub end-told : r.answer ≡ End → walk (scene_of s) n 0 at ≡ walk_all (scene_of given) block
-  end-told was = ends_well (scene_of given) block bytes (scene_of s) at n g (answered End was)
+  pub end-told : r.answer ≡ Ok None → walk (scene_of s) n 0 at ≡ walk_all (scene_of given) block
+  end-told was = ends_well (scene_of given) block bytes (scene_of s) at n g (answered (Ok None) was)
 
-  pub refusal-told : (k p : ℕ) → r.answer ≡ Refused k p → walk (scene_of given) 0 k p ≡ walk_all (scene_of given) block
-  refusal-told k p was = ends-refused (scene_of given) block bytes (scene_of s) at n g k p (answered (Refused k p) was)
+  pub refusal-told : (q : Refused) → r.answer ≡ Err q → walk (scene_of given) 0 (number_of q.refusal) q.place ≡ walk_all (scene_of given) block
+  refusal-told q was = ends-refused (scene_of given) block bytes (scene_of s) at n g (number_of q.refusal) q.place (answered (Err q) was)

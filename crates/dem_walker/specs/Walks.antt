@@ -1,16 +1,19 @@
 -- A walk over a block's messages: one step, and all of them.
-use Rattle.std.specs.Prelude.{List, cond, not, ℕ, ◌+◌, length}
+use Rattle.std.specs.Prelude.{List, cond, not, ℕ, ◌+◌, length, Option, None, Some, Ok, Err}
+use Rattle.std.specs.Prelude as Rust
 use Rattle.format.specs.Refusal.{code, wrong_scene}
+use Rattle.format.specs.Refusals.{number_of}
+use Rattle.format.specs.declared.refusal.Refused.{Refused}
 use Rattle.format.specs.Bytes.{Result, found, refused}
 use Rattle.dem.specs.Scene.{Scene, in_range}
 use Rattle.dem.specs.Message.{Message}
 use Rattle.format.specs.Codec.{read_all, fill_all, apply_all}
-use Rattle.format.specs.Answer.{place_in, Answer, result, at_end, refusal, Item, Reply}
+use Rattle.format.specs.Answer.{place_in, Answer, result, at_end, refusal, Item, Reply as Told}
 use Rattle.dem.specs.Recording.{messages}
 use Rattle.dem.specs.Answer.{message_at}
 use Rattle.dem_scene.specs.Views.{scene_of}
-use Rattle.dem_messages.specs.declared.MessageAnswer.{MessageAnswer}
-use Rattle.dem_messages.specs.declared.MessageAnswer.TheVariants.{Found, End, Refused}
+use Rattle.dem_messages.specs.declared.Found.{Found}
+use Rattle.dem_messages.specs.declared.Reply.{Reply}
 use Rattle.dem_walker.specs.declared.Walked.{Walked}
 
 -- ---- one step
@@ -23,20 +26,20 @@ moved_to at (refusal n p) = at
 
 -- What is handed out, and the place to go on at.
 pub record Stepped : Type 0 where
-  pub handed : Reply Scene (Item Message Message)
+  pub handed : Told Scene (Item Message Message)
   pub at : ℕ
 
-abbrev pub stepped : Reply Scene (Item Message Message) → ℕ → Stepped
+abbrev pub stepped : Told Scene (Item Message Message) → ℕ → Stepped
 stepped r at = record { handed = r; at = at }
 
 abbrev pub step_at : Scene → List ℕ → ℕ → Stepped
 step_at s block at = let r = message_at s block at in stepped r (moved_to at r.answer)
 
 -- Told of the reader's answer itself.
-abbrev pub place_after : ℕ → MessageAnswer → ℕ
-place_after at (Found m f next) = next
-place_after at End = at
-place_after at (Refused n p) = at
+abbrev pub place_after : ℕ → Rust.Result (Option Found) Refused → ℕ
+place_after at (Ok (Some f)) = f.next
+place_after at (Ok None) = at
+place_after at (Err r) = at
 
 -- ---- all messages of a block
 
@@ -59,5 +62,9 @@ walk_from given block s n (refused r left) = walk given 0 r (place_in block left
 unfoldable pub walk_all : Scene → List ℕ → Walk
 walk_all s block = cond (not (in_range s)) (walk s 0 (code wrong_scene) 0) (walk_from s block s 0 (read_all messages s block))
 
-abbrev pub walked_of : Walked → Walk
-walked_of r = walk (scene_of r.scene) r.messages r.refusal r.place
+abbrev pub walked_in : Scene → Rust.Result Walked Refused → Walk
+walked_in s (Ok w) = walk s w.messages 0 w.place
+walked_in s (Err r) = walk s 0 (number_of r.refusal) r.place
+
+abbrev pub walked_of : Reply Walked → Walk
+walked_of r = walked_in (scene_of r.scene) r.answer

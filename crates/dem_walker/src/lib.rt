@@ -6,7 +6,7 @@ ghost use Rattle.dem_scene.specs.Views.{scene_of};
 ghost use Rattle.dem_messages.specs.Replies.{reply_of};
 ghost use Rattle.dem_walker.specs.Walks.{place_after, stepped, step_at, walked_of, walk_all};
 
-use dem_messages::{MessageAnswer, MessageReply};
+use dem_messages::{Found, Reply};
 use dem_scene::Scene;
 
 #[derive(Clone, Copy)]
@@ -16,14 +16,12 @@ pub struct Walker<'a> {
 }
 
 // The place to go on at: behind a message that is found, and else the same place.
-pub fn moved_to(at: usize, reply: MessageReply) -> usize
-    ensures { result ≡ place_after at reply.answer }
+pub fn moved_to(at: usize, reply: &Reply<Option<Found>>) -> usize
+    ensures { result ≡ place_after at reply.now.answer }
 {
-    let answer = reply.answer;
-    match answer {
-        MessageAnswer::Found(_, _, next) => next,
-        MessageAnswer::End => at,
-        MessageAnswer::Refused(_, _) => at,
+    match reply.answer {
+        Ok(Some(found)) => found.next,
+        Ok(None) | Err(_) => at,
     }
 }
 
@@ -35,55 +33,51 @@ pub fn walk<'a>(block: &'a [u8]) -> Walker<'a>
 }
 
 // The next message, in a scene. The walker moves on behind a message that is found, and else stays where it was.
-pub fn next<'s, 'a>(w: &'s mut Walker<'a>, scene: Scene) -> MessageReply
+pub fn next<'s, 'a>(w: &'s mut Walker<'a>, scene: Scene) -> Reply<Option<Found>>
     ensures { (stepped (reply_of w.old.block.now result) w.new.at ≡ step_at (scene_of scene) w.old.block.now w.old.at) × (w.new.block ≡ w.old.block) }
 {
-    let at = w.at;
-    let reply = dem_messages::read_message_at(scene, w.block, at);
-    w.at = moved_to(at, reply);
+    let reply = dem_messages::read_message_at(scene, w.block, w.at);
+    w.at = moved_to(w.at, &reply);
     reply
 }
 
-// The scene after a block's messages, how many they are, and the place behind them; or a refusal's number and place, with the scene given and
-// no message counted.
+// How many messages a block has, and the place behind them.
 #[derive(Clone, Copy)]
 pub struct Walked {
-    pub scene: Scene,
     pub messages: usize,
-    pub refusal: u8,
     pub place: usize,
 }
 
-// All messages of a block, in a scene.
-pub fn read_all(block: &[u8], scene: Scene) -> Walked
+// All messages of a block, in a scene: the scene after them. With a refusal, the scene given.
+pub fn read_all(block: &[u8], scene: Scene) -> Reply<Walked>
     ensures { walked_of result ≡ walk_all (scene_of scene) block.now }
 {
     let mut current = scene;
     let mut at = 0;
     let mut messages = 0;
+    // From place to place, with an answer at each end: no index is counted.
     loop {
         let reply = dem_messages::read_message_at(current, block, at);
-        let answer = reply.answer;
-        match answer {
-            MessageAnswer::Found(_, _, next) => {
+        match reply.answer {
+            Ok(Some(found)) => {
                 current = reply.scene;
-                at = next;
-                messages = messages + 1;
+                at = found.next;
+                messages += 1;
             }
-            MessageAnswer::End => {
-                return Walked {
-                    scene: current,
+            Ok(None) => {
+                let walked = Walked {
                     messages,
-                    refusal: 0,
                     place: at,
                 };
+                return Reply {
+                    answer: Ok(walked),
+                    scene: current,
+                };
             }
-            MessageAnswer::Refused(refusal, place) => {
-                return Walked {
+            Err(r) => {
+                return Reply {
+                    answer: Err(r),
                     scene,
-                    messages: 0,
-                    refusal,
-                    place,
                 };
             }
         }

@@ -18,7 +18,7 @@ use Rattle.dem.specs.Message.{TemporaryKind, point, line, explosion2, temporary_
 use Rattle.format.proofs.LayoutLaws.{Allowed, allows→}
 use Rattle.dem.proofs.MessageLaws.{kind-update}
 use Rattle.dem.proofs.ShapeLaws.{update_numbered}
-use Rattle.wire.specs.Cursors.{text_in}
+use Rattle.wire.specs.Reads.{text_in}
 use Rattle.wire.specs.declared.Text.{Text}
 use Rattle.strings.specs.Names.{names_in}
 use Rattle.dem_types.specs.Values.{values_by, long as long_value, vector_values, temporary_values, update_values}
@@ -54,7 +54,7 @@ temporary-print x k t vs e = ap (λ (t : TemporaryKind). le_write 1 Kind.tempora
 
 module _ (x : Context) (t : List ℕ) where
   pub point-print : (k : ℕ) (v : Vector) → Allowed (layout x) (number Kind.temporary ∷ temporary_values (Point k v))
-      → bytes_of t (number_piece 1 Kind.temporary ∷ number_piece 1 k ∷ number_piece 0 0 ∷ vector_pieces v)
+      → bytes_of t (number_piece 1 Kind.temporary ∷ number_piece 1 k ∷ vector_pieces v)
       ≡ print (layout x) (number Kind.temporary ∷ temporary_values (Point k v))
   unfolding layout kind_layout print bytes_of
   point-print k v a = temporary-print x k point (vector_values v) (go (temporary_kind k) a.2.2)

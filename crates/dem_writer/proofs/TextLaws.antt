@@ -10,7 +10,7 @@ use Rattle.dem.specs.Message.{names}
 use Rattle.format.proofs.ResultLaws.{clash}
 use Rattle.format.proofs.ByteLaws.{StringBytes}
 use Rattle.format.proofs.LayoutLaws.{Allowed}
-use Rattle.wire.specs.Cursors.{text_in}
+use Rattle.wire.specs.Reads.{text_in}
 use Rattle.wire.specs.declared.Text.{Text}
 use Rattle.strings.specs.Names.{names_in}
 use Rattle.strings.proofs.NameLaws.{no_lists}

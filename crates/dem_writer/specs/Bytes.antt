@@ -1,9 +1,9 @@
 -- The bytes that a message is written as, as data.
-use Rattle.std.specs.Prelude.{List, [], ◌∷◌, ◌++◌, ℕ, zero, suc, min, get_or}
+use Rattle.std.specs.Prelude.{List, [], ◌∷◌, ◌++◌, ℕ, take}
 use Rattle.std.proofs.Common.{of_z}
 use Rattle.std.specs.Int.{w8, w16}
 use Rattle.format.specs.Bytes.{le_write}
-use Rattle.wire.specs.Cursors.{text_in}
+use Rattle.wire.specs.Reads.{text_in}
 use Rattle.wire.specs.declared.Text.{Text}
 use Rattle.dem_types.specs.declared.Vector.{Vector}
 use Rattle.dem_types.specs.declared.Look.{Look}
@@ -13,11 +13,11 @@ use Rattle.dem_writer.specs.declared.Pieces.{Pieces}
 
 -- A number alone.
 abbrev pub number_piece : ℕ → ℕ → Piece
-number_piece w v = record { start = 0; len = 0; width = w; value = v }
+number_piece w v = record { text = record { start = 0; len = 0 }; width = w; value = v }
 
 -- A string, or serverinfo's lists: a text and w zeros.
 abbrev pub text_piece : Text → ℕ → Piece
-text_piece t w = record { start = t.start; len = t.len; width = w; value = 0 }
+text_piece t w = record { text = t; width = w; value = 0 }
 
 abbrev pub vector_pieces : Vector → List Piece
 vector_pieces v = number_piece 2 (of_z w16 v.x) ∷ number_piece 2 (of_z w16 v.y) ∷ number_piece 2 (of_z w16 v.z) ∷ []
@@ -32,20 +32,15 @@ pose_pieces p =
 
 -- Some bytes of a text, then a number.
 abbrev pub piece_bytes : List ℕ → Piece → List ℕ
-piece_bytes t p = text_in t (record { start = p.start; len = p.len }) ++ le_write p.width p.value
+piece_bytes t p = text_in t p.text ++ le_write p.width p.value
 
 unfoldable pub bytes_of : List ℕ → List Piece → List ℕ
 bytes_of t [] = []
 bytes_of t (p ∷ ps) = piece_bytes t p ++ bytes_of t ps
 
--- The pieces from the i-th of an array on, n of them.
-abbrev pub run : List Piece → ℕ → ℕ → List Piece
-run ps i zero = []
-run ps i (suc n) = get_or ps i (number_piece 0 0) ∷ run ps (suc i) n
-
 -- As many as are counted.
 abbrev pub list_of : Pieces → List Piece
-list_of p = run p.items 0 (min p.count 24)
+list_of p = take p.count p.items
 
 -- The bytes of all of them, with the text that they name.
 abbrev pub pieces_bytes : List ℕ → Pieces → List ℕ

@@ -8,11 +8,11 @@ mod words;
 
 ghost use Rattle.std.specs.Prelude.{◌≡◌, length};
 
-use dem_messages::MessageAnswer;
-use dem_scene::Scene;
-use dem_text::{lines, text};
+use dem_text::lines::scene_lines;
+use dem_text::page::Page;
+use recording::ReadFailed;
 use std::env::{Env, FillError};
-use std::io;
+use std::{fmt, io};
 use words::Given;
 
 // No argument is longer.
@@ -27,88 +27,62 @@ fn complain(rt: &HostRuntime, text: &[u8]) {
     let _ = rt.stderr().write_all(text);
 }
 
-fn complain_of(rt: &HostRuntime, word: &[u8]) {
-    complain(rt, b"wrong word ");
-    complain(rt, word);
-    complain(rt, b"\n");
-}
-
-// The scene and what is asked, after a word.
-fn after_word(rt: &HostRuntime, given: Given, word: &[u8], asked: &mut [u8]) -> Given {
-    let after = words::change(given, word, asked);
-    if after.wrong {
-        complain_of(rt, word);
-    }
-    after
-}
-
-// After all words, or the first that is wrong.
-fn after_words(rt: &HostRuntime, start: Given, asked: &mut [u8]) -> Given {
-    let mut given = start;
+// Changes what is given as all words say, and answers whether none was wrong.
+fn are_good(rt: &HostRuntime, given: &mut Given, asked: &mut [u8]) -> bool {
     let mut room = word_room();
     for i in 1..usize::MAX {
         let len = match rt.arg(i, &mut room) {
             Ok(len) => len,
             Err(FillError::TooLong) => 0,
-            Err(FillError::NotPresent) => return given,
+            Err(FillError::NotPresent) => return true,
         };
-        given = after_word(rt, given, &room[..len], asked);
-        if given.wrong {
-            return given;
+        let word = &room[..len];
+        if words::change(given, word, asked).is_none() {
+            complain(rt, b"wrong word ");
+            complain(rt, word);
+            complain(rt, b"\n");
+            return false;
         }
     }
-    given
+    true
 }
 
-fn answer_lines(
-    rt: &impl Print,
-    out: &mut [u8],
-    scene: Scene,
-    bytes: &[u8],
-    at: usize,
-) -> io::Result<usize> {
-    let reply = dem_messages::read_message_at(scene, bytes, at);
-    let answer = reply.answer;
-    let after = reply.scene;
-    match answer {
-        MessageAnswer::Found(_, _, next) => {
-            let end = text::form(rt, out, 0, b"next %", &[next as u64])?;
-            lines::scene_lines(rt, out, end, after)
+fn answer_lines(w: &mut impl fmt::Write, given: &Given, bytes: &[u8]) -> fmt::Result {
+    let reply = dem_messages::read_message_at(given.scene, bytes, given.at);
+    match reply.answer {
+        Ok(Some(found)) => {
+            write!(w, "next {}", found.next)?;
+            scene_lines(w, &reply.scene)
         }
-        MessageAnswer::End => text::put(rt, out, 0, b"end\n"),
-        MessageAnswer::Refused(refusal, place) => lines::refused(rt, out, refusal, place),
+        Ok(None) => w.write_str("end\n"),
+        Err(refused) => writeln!(w, "{refused}"),
     }
 }
 
-fn show(rt: &impl Print, given: Given, asked: &[u8]) -> io::Result<()> {
-    let count = given.count;
-    let scene = given.scene;
-    if count <= asked.len() {
-        let mut out = [0; 65536];
-        let end = answer_lines(rt, &mut out, scene, &asked[..count], given.at)?;
-        text::finish(rt, &out, end)?;
+fn show(rt: &impl Print, given: &Given, asked: &[u8]) -> io::Result<()> {
+    let mut room = [0; 65536];
+    let mut page = Page::new(rt, &mut room);
+    if let Some(bytes) = asked.get(..given.count) {
+        answer_lines(&mut page, given, bytes)?;
     }
-    Ok(())
+    page.finish()
 }
 
 fn main(rt: HostRuntime) {
-    let read = recording::scene_after(&mut rt.stdin());
-    if read.failed {
-        complain(&rt, b"demgiven: cannot read standard input\n");
-        return;
-    }
+    let scene = match recording::scene_after(&mut rt.stdin()) {
+        Ok(scene) => scene,
+        Err(ReadFailed) => {
+            complain(&rt, b"demgiven: cannot read standard input\n");
+            return;
+        }
+    };
     let mut asked = [0u8; 8192];
-    let scene = read.scene;
-    let start = Given {
+    let mut given = Given {
         scene,
         count: 0,
         at: 0,
-        wrong: false,
     };
-    let given = after_words(&rt, start, &mut asked);
-    if !given.wrong {
-        if show(&rt, given, &asked).is_err() {
-            complain(&rt, b"a write of the output failed\n");
-        }
+    if are_good(&rt, &mut given, &mut asked) && show(&rt, &given, &asked).is_err() {
+        complain(&rt, b"a write of the output failed\n");
     }
 }

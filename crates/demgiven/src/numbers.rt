@@ -1,75 +1,44 @@
 // Numbers in words.
 
-// A number, if there is one, that fits 32 bits.
-#[derive(Clone, Copy)]
-pub struct Number {
-    pub value: u64,
-    pub good: bool,
-}
-
-fn none() -> Number {
-    Number {
-        value: 0,
-        good: false,
-    }
-}
-
-// What a byte is as a digit; 16 where it is none.
-pub fn digit(b: u8) -> u8 {
+// What a byte is as a digit.
+pub fn digit(b: u8) -> Option<u8> {
     match b {
-        b'0'..=b'9' => b - b'0',
-        b'a'..=b'f' => b - b'a' + 10,
-        b'A'..=b'F' => b - b'A' + 10,
-        _ => 16,
+        b'0'..=b'9' => Some(b - b'0'),
+        b'a'..=b'f' => Some(b - b'a' + 10),
+        b'A'..=b'F' => Some(b - b'A' + 10),
+        _ => None,
     }
 }
 
-// With one digit more, of ten or sixteen.
-fn with_digit(n: Number, hex: bool, b: u8) -> Number {
-    let d = digit(b) as u64;
-    if n.value > 4294967295 {
-        return none();
+// A number of at least one digit, of ten or sixteen, that fits 32 bits.
+fn read_u32(text: &[u8], base: u8) -> Option<u32> {
+    if text.is_empty() {
+        return None;
     }
-    if hex {
-        if d < 16 {
-            return Number {
-                value: n.value * 16 + d,
-                good: n.good,
-            };
-        }
-        return none();
-    }
-    if d < 10 {
-        return Number {
-            value: n.value * 10 + d,
-            good: n.good,
-        };
-    }
-    none()
-}
-
-// A number of at least one digit that is at most so large.
-pub fn read_number(text: &[u8], hex: bool, most: u64) -> Number {
-    let mut n = Number {
-        value: 0,
-        good: 0 < text.len(),
-    };
+    let mut n: u32 = 0;
     for b in text {
-        n = with_digit(n, hex, *b);
-        if !n.good {
-            return n;
+        let d = digit(*b)?;
+        if base <= d {
+            return None;
         }
+        n = n.checked_mul(u32::from(base))?.checked_add(u32::from(d))?;
     }
-    if most < n.value {
-        return none();
-    }
-    n
+    Some(n)
+}
+
+pub fn decimal(text: &[u8]) -> Option<u32> {
+    read_u32(text, 10)
+}
+
+pub fn hexadecimal(text: &[u8]) -> Option<u32> {
+    read_u32(text, 16)
 }
 
 // 0 or 1.
-pub fn read_flag(text: &[u8]) -> Number {
-    if text.len() == 1 {
-        return read_number(text, false, 1);
+pub fn flag(text: &[u8]) -> Option<bool> {
+    match text {
+        b"0" => Some(false),
+        b"1" => Some(true),
+        _ => None,
     }
-    none()
 }

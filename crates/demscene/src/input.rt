@@ -3,46 +3,17 @@
 ghost use Rattle.std.specs.Prelude.{◌≡◌, length, IfOk, vec_len};
 
 use crate::lines;
+use input_pieces::{Stop, fill};
 use std::alloc::{AllocError, Global};
-use std::io::Read;
-
-// The input's end came after so many bytes; or the array is full; or a read failed.
-#[derive(Drop)]
-enum Taken {
-    Ended(usize),
-    Full,
-    Failed,
-}
 
 // Where standard error takes nothing either, nobody can be told.
 fn complain(rt: &HostRuntime, text: &[u8]) {
     let _ = rt.stderr().write_all(text);
 }
 
-// Reads into the array from a place on.
-fn fill(reader: &mut impl Read, buf: &mut [u8], from: usize) -> Taken {
-    let mut done = from;
-    while done < buf.len() {
-        match reader.read(&mut buf[done..]) {
-            Ok(0) => return Taken::Ended(done),
-            Ok(n) => done += n,
-            Err(_) => return Taken::Failed,
-        }
-    }
-    Taken::Full
-}
-
-fn copy(from: &[u8], to: &mut [u8]) {
-    for (b, place) in from.iter().zip(to.iter_mut()) {
-        *place = *b;
-    }
-}
-
-fn show(rt: &HostRuntime, buf: &[u8], n: usize) {
-    if n <= buf.len() {
-        if lines::show(rt, &buf[..n]).is_err() {
-            complain(rt, b"a write of the output failed\n");
-        }
+fn show(rt: &HostRuntime, bytes: &[u8]) {
+    if lines::show(rt, bytes).is_err() {
+        complain(rt, b"a write of the output failed\n");
     }
 }
 
@@ -60,20 +31,18 @@ fn large_room(alloc: Global) -> Result<Vec<u8>, AllocError>
 }
 
 // Reads on into the array, behind the first bytes, and shows what came; or answers that the array was filled.
-fn is_filled(rt: &HostRuntime, buf: &mut [u8], first: &[u8]) -> bool {
-    copy(first, buf);
-    let taken = fill(&mut rt.stdin(), buf, first.len());
-    match taken {
-        Taken::Ended(n) => {
-            show(rt, buf, n);
-            false
-        }
-        Taken::Full => true,
-        Taken::Failed => {
-            complain(rt, b"a read of the input failed\n");
-            false
-        }
+fn is_filled(rt: &HostRuntime, room: &mut [u8], first: &[u8]) -> bool {
+    let Some(front) = room.get_mut(..first.len()) else {
+        return true;
+    };
+    front.copy_from_slice(first);
+    let filled = fill(&mut rt.stdin(), room, first.len());
+    match filled.stop {
+        Stop::Full => return true,
+        Stop::Ended => show(rt, &room[..filled.len]),
+        Stop::Failed => complain(rt, b"a read of the input failed\n"),
     }
+    false
 }
 
 fn long(rt: &HostRuntime, first: &[u8]) {

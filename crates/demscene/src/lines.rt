@@ -1,40 +1,25 @@
 // What is printed of a recording: a refusal, or what it holds and the scene after it.
-use dem_recordings::{RecordingAnswer, RecordingReply, read_recording};
-use dem_text::lines::{refused, scene_lines};
-use dem_text::text;
-use dem_text::text::{form, short};
-use std::io;
+use dem_recordings::read_recording;
+use dem_text::lines::scene_lines;
+use dem_text::page::Page;
+use std::{fmt, io};
 
-fn accepted(
-    rt: &impl Print,
-    out: &mut [u8],
-    track: i16,
-    blocks: usize,
-    messages: usize,
-) -> io::Result<usize> {
-    form(
-        rt,
-        out,
-        0,
-        b"accepted\ntrack %\nblocks %\nmessages %",
-        &[short(track), blocks as u64, messages as u64],
-    )
-}
-
-fn reply_lines(rt: &impl Print, out: &mut [u8], reply: RecordingReply) -> io::Result<usize> {
-    let answer = reply.answer;
-    let s = reply.scene;
-    match answer {
-        RecordingAnswer::Read(track, blocks, messages) => {
-            let end = accepted(rt, out, track, blocks, messages)?;
-            scene_lines(rt, out, end, s)
+fn recording(w: &mut impl fmt::Write, bytes: &[u8]) -> fmt::Result {
+    let reply = read_recording(bytes);
+    match reply.answer {
+        Ok(summary) => {
+            write!(w, "accepted\ntrack {}", summary.track)?;
+            write!(w, "\nblocks {}", summary.blocks)?;
+            write!(w, "\nmessages {}", summary.messages)?;
+            scene_lines(w, &reply.scene)
         }
-        RecordingAnswer::Refused(n, place) => refused(rt, out, n, place),
+        Err(refused) => writeln!(w, "{refused}"),
     }
 }
 
 pub fn show(rt: &impl Print, bytes: &[u8]) -> io::Result<()> {
-    let mut out = [0; 65536];
-    let end = reply_lines(rt, &mut out, read_recording(bytes))?;
-    text::finish(rt, &out, end)
+    let mut room = [0; 65536];
+    let mut page = Page::new(rt, &mut room);
+    recording(&mut page, bytes)?;
+    page.finish()
 }

@@ -5,9 +5,6 @@ ghost use Rattle.std.specs.Prelude.{◌≡◌};
 ghost use Rattle.dem.specs.Answer.{whole, whole_normal};
 ghost use Rattle.exports.specs.Numbers.{checked, checked_by, rewritten, rewritten_by};
 
-use dem_messages::WriteAnswer;
-use dem_recordings::RecordingAnswer;
-
 // Whether a recording is accepted: 0 and what it holds, or a refusal's number and its place.
 #[unsafe(no_mangle)]
 pub extern "C" fn cobbrundle_check(
@@ -19,22 +16,20 @@ pub extern "C" fn cobbrundle_check(
 ) -> u8
     ensures { checked result place.new track.new blocks.new messages.new ≡ checked_by (whole bytes.now).answer }
 {
-    let r = dem_recordings::read_recording(bytes);
-    let answer = r.answer;
     *place = 0;
     *track = 0;
     *blocks = 0;
     *messages = 0;
-    match answer {
-        RecordingAnswer::Read(number, b, m) => {
-            *track = number;
-            *blocks = b;
-            *messages = m;
+    match dem_recordings::read_recording(bytes).answer {
+        Ok(summary) => {
+            *track = summary.track;
+            *blocks = summary.blocks;
+            *messages = summary.messages;
             0
         }
-        RecordingAnswer::Refused(number, at) => {
-            *place = at;
-            number
+        Err(r) => {
+            *place = r.place;
+            u8::from(r.refusal)
         }
     }
 }
@@ -49,18 +44,16 @@ pub extern "C" fn cobbrundle_normalise(
 ) -> u8
     ensures { rewritten result place.new written.new room.new ≡ rewritten_by (whole_normal bytes.now room.old) }
 {
-    let r = dem_recordings::normal_recording(bytes, room);
-    let answer = r.answer;
     *place = 0;
     *written = 0;
-    match answer {
-        WriteAnswer::Written(n) => {
-            *written = n;
+    match dem_recordings::normal_recording(bytes, room).answer {
+        Ok(size) => {
+            *written = size;
             0
         }
-        WriteAnswer::Refused(number, at) => {
-            *place = at;
-            number
+        Err(r) => {
+            *place = r.place;
+            u8::from(r.refusal)
         }
     }
 }

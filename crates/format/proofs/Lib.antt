@@ -19,3 +19,5 @@ pub mod ProgressLaws
 pub mod RewritingLaws
 pub mod EachLaws
 pub mod BitLaws
+pub mod StoreLaws
+pub mod RefusalsBack

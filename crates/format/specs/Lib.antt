@@ -7,3 +7,4 @@ pub mod Layout
 pub mod Masked
 pub mod Codec
 pub mod Answer
+pub mod Refusals

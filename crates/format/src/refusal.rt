@@ -1,29 +1,50 @@
-// The refusals, as specs/Refusal.antt numbers them.
+// The refusals of document 01, as specs/Refusal.antt numbers them, and where one stands.
+ghost use Rattle.std.specs.Prelude.{◌≡◌};
+ghost use Rattle.format.specs.Refusals.{number_of};
 
-pub const WRONG_TRACK: u8 = 1;
-// A block's head or body ends early.
-pub const CUT_BLOCK: u8 = 2;
+use std::fmt;
 
-pub const LONG_BLOCK: u8 = 3;
+// Why bytes, a record or a scene are refused.
+#[derive(Clone, Copy, PartialEq, Eq, Debug)]
+pub enum Refusal {
+    WrongTrack = 1,
+    // A block's head or body ends early.
+    CutBlock,
+    LongBlock,
+    WrongAngle,
+    // The block ends inside a message, or the asked place is past the end.
+    CutMessage,
+    UnknownMessage,
+    WrongString,
+    ReservedBit,
+    WrongNumber,
+    WrongTime,
+    AfterDisconnect,
+    ShortRoom,
+    // A record to write that no bytes read to in the scene given.
+    Unreadable,
+    // A scene outside its ranges, or player lines not 16.
+    WrongScene,
+}
 
-pub const WRONG_ANGLE: u8 = 4;
-// The block ends inside a message, or the asked place is past the end.
-pub const CUT_MESSAGE: u8 = 5;
+// Its number in document 01.
+impl From<Refusal> for u8 {
+    ghost from_gives = { λ refusal number. number ≡ number_of refusal };
 
-pub const UNKNOWN_MESSAGE: u8 = 6;
+    fn from(refusal: Refusal) -> u8 {
+        refusal as u8
+    }
+}
 
-pub const WRONG_STRING: u8 = 7;
+// A refusal, and the place that it is about.
+#[derive(Clone, Copy, PartialEq, Eq, Debug)]
+pub struct Refused {
+    pub refusal: Refusal,
+    pub place: usize,
+}
 
-pub const RESERVED_BIT: u8 = 8;
-
-pub const WRONG_NUMBER: u8 = 9;
-
-pub const WRONG_TIME: u8 = 10;
-
-pub const AFTER_DISCONNECT: u8 = 11;
-
-pub const SHORT_ROOM: u8 = 12;
-// A record to write that no bytes read to in the scene given.
-pub const UNREADABLE: u8 = 13;
-// A scene outside its ranges, or player lines not 16.
-pub const WRONG_SCENE: u8 = 14;
+impl fmt::Display for Refused {
+    fn fmt<W: fmt::Write>(&self, f: &mut fmt::Formatter<W>) -> fmt::Result {
+        write!(f, "refused {} at {}", u8::from(self.refusal), self.place)
+    }
+}

@@ -4,9 +4,10 @@ use mathlib.Core.Path.{◌≡◌, refl, sym, ap, ◌∙◌}
 use mathlib.Core.List.{List, [], ◌∷◌, ◌++◌, map, map-append}
 use mathlib.Core.Bool.{Bool, true, false}
 use Prim.Native.Nat.{ℕ, zero, suc, ◌+◌, ◌*◌, ◌/◌, ◌%◌, ◌^◌, ◌≤◌, ◌<◌}
+use native.Mathlib.Nat.{pow-suc, one-le-pow}
 use native.Mathlib.Omega.{arith}
 use borrow.Author.Tests.{lt-ltb, le-ltb, ltb-true, ltb-false}
-use lib.Dec.{ltb}
+use lib.Dec.{ltb, lit<}
 use lib.ListN.{length, length-append}
 use Rattle.format.specs.Digits.{digit_zero, decimal, Digits}
 use Rattle.format.proofs.ResultLaws.{clash}
@@ -72,23 +73,18 @@ no_zero_lem (suc f) v ds h e =
 
 -- ---- how many there are
 
--- One digit more.
-pub record Longer (f v : ℕ) : Type 0 where
-  pub some : 0 < f
-  pub below : v / 10 < 10 ^ f
-  pub size : length (decimal_digits (suc f) v) ≡ length (decimal_digits f (v / 10)) + 1
-
-pub longer : (f v : ℕ) → 10 ≤ v → v < 10 ^ suc f → Longer f v
-longer zero v l h = let z : ⊥ = omega arith in absurd z
-longer (suc f) v l h =
-    record {
-      some = omega arith;
-      below = tenth-below (suc f) v h;
-      size = ap length (digits_more (suc f) v l) ∙ length-append (decimal_digits (suc f) (v / 10)) (v % 10 ∷ []);
-    }
-
 pub single : (f v : ℕ) → v < 10 → length (decimal_digits (suc f) v) ≡ 1
 single f v h = ap length (digits_last f v h)
+
+-- As many more as the number has tens.
+pub digits_counted : (f k v : ℕ) → k < f → 10 ^ k ≤ v → v < 10 * 10 ^ k → length (decimal_digits f v) ≡ k + 1
+digits_counted zero k v l p q = let z : ⊥ = omega arith in absurd z
+digits_counted (suc f) zero v l p q = single f v (omega arith)
+digits_counted (suc f) (suc k) v l p q =
+    let e = pow-suc 10 k in
+    let some : 1 ≤ 10 ^ k = one-le-pow k 10 (lit< tt) in
+    ap length (digits_more f v (omega arith)) ∙ length-append (decimal_digits f (v / 10)) (v % 10 ∷ [])
+    ∙ omega (arith, digits_counted f k (v / 10) (omega arith) (omega arith) (omega arith))
 
 pub digits-most : (f v : ℕ) → length (decimal_digits f v) ≤ f
 unfolding decimal_digits

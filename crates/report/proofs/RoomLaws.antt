@@ -21,16 +21,22 @@ set_first [] s at i d h = refl
 set_first (x ∷ xs) s at i d h =
     ap (λ (l : List ℕ). sets l (suc at) xs) (set_comm s i at d x (λ e. omega arith)) ∙ set_first xs (set s at x) (suc at) i d (omega arith)
 
-pub number_down : (s : List ℕ) (at k v : ℕ) → 0 < k
-    → sets (set s (at + (k - 1)) (v % 10 + digit_zero)) at (last_text (k - 1) (v / 10)) ≡ sets s at (last_text k v)
-number_down s at zero v h = let z : ⊥ = omega arith in absurd z
-number_down s at (suc j) v h =
-    let m : suc j - 1 ≡ j = omega arith in
+one_down : (s : List ℕ) (at j v : ℕ) → sets (set s (at + j) (v % 10 + digit_zero)) at (last_text j (v / 10)) ≡ sets s at (last_text (suc j) v)
+one_down s at j v =
     let n = last-length j (v / 10) in
-    rw m
-    (set_first (last_text j (v / 10)) s at (at + j) (v % 10 + digit_zero) (omega (arith, n))
+    set_first (last_text j (v / 10)) s at (at + j) (v % 10 + digit_zero) (omega (arith, n))
     ∙ ap (λ (k : ℕ). set (sets s at (last_text j (v / 10))) (at + k) (v % 10 + digit_zero)) (sym n)
-    ∙ sets_append s at (last_text j (v / 10)) ((v % 10 + digit_zero) ∷ []))
+    ∙ sets_append s at (last_text j (v / 10)) ((v % 10 + digit_zero) ∷ [])
+
+-- The digits from one place to another, of which the last is stored first.
+pub number_down : (s : List ℕ) (at k v : ℕ) → at < k
+    → sets (set s (k - 1) (v % 10 + digit_zero)) at (last_text (k - 1 - at) (v / 10)) ≡ sets s at (last_text (k - at) v)
+number_down s at k v h =
+    let e : k - 1 ≡ at + (k - 1 - at) = omega arith in
+    let n : suc (k - 1 - at) ≡ k - at = omega arith in
+    ap (λ (i : ℕ). sets (set s i (v % 10 + digit_zero)) at (last_text (k - 1 - at) (v / 10))) e
+    ∙ one_down s at (k - 1 - at) v
+    ∙ ap (λ (m : ℕ). sets s at (last_text m v)) n
 
 pub number_none : (s : List ℕ) (at k v : ℕ) → k ≤ 0 → sets s at (last_text k v) ≡ s
 number_none s at zero v h = refl

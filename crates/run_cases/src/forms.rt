@@ -1,81 +1,54 @@
 // Normal forms of blocks and of recordings, into room that held EE.
-use crate::{messages, recordings};
-use dem_messages::WriteAnswer;
-use dem_recordings::{Progress, RewriteAnswer, TrackNormalAnswer};
+use crate::messages::{normal_answer, room_shown};
+use crate::{Case, recordings};
 use dem_scene::Scene;
+use run_show::scenes::show;
 use std::io;
 
-pub fn normal(
-    rt: &impl Print,
-    scene: Scene,
-    bytes: &[u8],
-    place: usize,
-    room: &mut [u8],
-) -> io::Result<Scene> {
-    let r = dem_recordings::normal_block_at(scene, bytes, place, room);
-    let answer = r.answer;
-    let after = r.scene;
-    messages::normal_answer(rt, answer)?;
-    messages::shown(rt, room)?;
-    run_show::scenes::show(rt, after)?;
-    Ok(after)
-}
-
-fn refused(rt: &impl Print, n: u8, at: usize) -> io::Result<()> {
-    run_show::say(rt, b"  ")?;
-    run_show::refused(rt, n, at)
-}
-
-fn progress(rt: &impl Print, p: Progress, len: usize) -> io::Result<()> {
-    run_show::count(rt, b"  written ", len)?;
-    run_show::say(rt, b" ")?;
-    recordings::progress(rt, p)
+pub fn normal(rt: &impl Print, scene: Scene, case: Case<'_>, room: &mut [u8]) -> io::Result<Scene> {
+    let r = dem_recordings::normal_block_at(scene, case.bytes, case.place, room);
+    normal_answer(rt, r.answer)?;
+    room_shown(rt, room)?;
+    show(rt, &r.scene)?;
+    Ok(r.scene)
 }
 
 pub fn normal_all(
     rt: &impl Print,
     scene: Scene,
-    bytes: &[u8],
-    place: usize,
+    case: Case<'_>,
     room: &mut [u8],
 ) -> io::Result<Scene> {
-    let r = dem_recordings::normal_blocks_at(scene, bytes, place, room);
-    let answer = r.answer;
-    let after = r.scene;
-    match answer {
-        RewriteAnswer::Written(w) => {
-            let p = w.progress;
-            progress(rt, p, w.length)?;
+    let r = dem_recordings::normal_blocks_at(scene, case.bytes, case.place, room);
+    match r.answer {
+        Ok(w) => {
+            print!(rt; "  written {} ", w.length)?;
+            recordings::progress(rt, w.progress)?;
         }
-        RewriteAnswer::Refused(n, at) => refused(rt, n, at)?,
+        Err(refused) => print!(rt; "  {refused}")?,
     }
-    messages::shown(rt, room)?;
-    run_show::scenes::show(rt, after)?;
-    Ok(after)
+    room_shown(rt, room)?;
+    show(rt, &r.scene)?;
+    Ok(r.scene)
 }
 
-pub fn recording(rt: &impl Print, bytes: &[u8], room: &mut [u8]) -> io::Result<Scene> {
-    let r = dem_recordings::normal_recording(bytes, room);
-    let answer = r.answer;
-    let after = r.scene;
-    match answer {
-        WriteAnswer::Written(n) => run_show::count(rt, b"  written ", n)?,
-        WriteAnswer::Refused(n, at) => refused(rt, n, at)?,
+pub fn recording(rt: &impl Print, case: Case<'_>, room: &mut [u8]) -> io::Result<Scene> {
+    let r = dem_recordings::normal_recording(case.bytes, room);
+    match r.answer {
+        Ok(length) => print!(rt; "  written {length}")?,
+        Err(refused) => print!(rt; "  {refused}")?,
     }
-    messages::shown(rt, room)?;
-    run_show::scenes::show(rt, after)?;
-    Ok(after)
+    room_shown(rt, room)?;
+    show(rt, &r.scene)?;
+    Ok(r.scene)
 }
 
 // The scene is not asked for, and stays.
-pub fn track(rt: &impl Print, scene: Scene, bytes: &[u8], room: &mut [u8]) -> io::Result<Scene> {
-    match dem_recordings::normal_track(bytes, room) {
-        TrackNormalAnswer::Written(n, next) => {
-            run_show::count(rt, b"  written ", n)?;
-            run_show::count(rt, b" next ", next)?;
-        }
-        TrackNormalAnswer::Refused(n, at) => refused(rt, n, at)?,
+pub fn track(rt: &impl Print, scene: Scene, case: Case<'_>, room: &mut [u8]) -> io::Result<Scene> {
+    match dem_recordings::normal_track(case.bytes, room) {
+        Ok(normal) => print!(rt; "  written {} next {}", normal.length, normal.next)?,
+        Err(refused) => print!(rt; "  {refused}")?,
     }
-    messages::shown(rt, room)?;
+    room_shown(rt, room)?;
     Ok(scene)
 }

@@ -1,37 +1,23 @@
 // Player lines that are lent.
+use crate::Case;
+use crate::hex::byte_at;
 use dem_lines::LineChange;
 use dem_scene::{PlayerLine, Scene};
 use dem_types::Player;
 use std::io;
 
-fn byte_at(bytes: &[u8], i: usize) -> u8 {
-    if i < bytes.len() {
-        return bytes[i];
-    }
-    0
-}
-
-fn short(low: u8, high: u8) -> i16 {
-    wire::signed16(low as u16 + 256 * (high as u16))
-}
-
-fn each(rt: &impl Print, lines: [PlayerLine; 17]) -> io::Result<()> {
-    for i in 0..17 {
-        run_show::scenes::line(rt, lines[i])?;
-    }
-    Ok(())
-}
-
 fn shown(rt: &impl Print, lines: [PlayerLine; 17]) -> io::Result<[PlayerLine; 17]> {
-    run_show::say(rt, b"  lines")?;
-    each(rt, lines)?;
-    run_show::say(rt, b"\n")?;
+    print!(rt; "  lines")?;
+    for line in lines.iter() {
+        run_show::scenes::line(rt, *line)?;
+    }
+    print!(rt; "\n")?;
     Ok(lines)
 }
 
 fn set(rt: &impl Print, bytes: &[u8]) -> io::Result<[PlayerLine; 17]> {
     let line = PlayerLine {
-        frags: short(byte_at(bytes, 0), byte_at(bytes, 1)),
+        frags: i16::from_le_bytes([byte_at(bytes, 0), byte_at(bytes, 1)]),
         colours: byte_at(bytes, 2),
     };
     shown(rt, [line; 17])
@@ -39,9 +25,10 @@ fn set(rt: &impl Print, bytes: &[u8]) -> io::Result<[PlayerLine; 17]> {
 
 fn change(bytes: &[u8]) -> LineChange {
     let player = Player(byte_at(bytes, 1));
+    let value = byte_at(bytes, 2);
     match byte_at(bytes, 0) {
-        1 => LineChange::Frags(player, short(byte_at(bytes, 2), byte_at(bytes, 3))),
-        2 => LineChange::Colours(player, byte_at(bytes, 2)),
+        1 => LineChange::Frags(player, i16::from_le_bytes([value, byte_at(bytes, 3)])),
+        2 => LineChange::Colours(player, value),
         3 => LineChange::Clear,
         _ => LineChange::Nothing,
     }
@@ -52,13 +39,14 @@ fn lend(
     lines: [PlayerLine; 17],
     count: usize,
     scene: Scene,
-    bytes: &[u8],
-    place: usize,
+    case: Case<'_>,
 ) -> io::Result<[PlayerLine; 17]> {
+    let bytes = case.bytes;
     if bytes.len() < 4 || 17 < count {
         return Ok(lines);
     }
-    let after = run_lends::lend(rt, lines, count, change(bytes), scene, &bytes[4..], place)?;
+    let change = change(bytes);
+    let after = run_lends::lend(rt, lines, count, change, scene, &bytes[4..], case.place)?;
     shown(rt, after)
 }
 
@@ -66,15 +54,13 @@ fn lend(
 pub fn ask(
     rt: &impl Print,
     lines: [PlayerLine; 17],
-    letter: u8,
     count: usize,
     scene: Scene,
-    bytes: &[u8],
-    place: usize,
+    case: Case<'_>,
 ) -> io::Result<[PlayerLine; 17]> {
-    match letter {
-        b'i' => set(rt, bytes),
-        b'l' => lend(rt, lines, count, scene, bytes, place),
+    match case.letter {
+        b'i' => set(rt, case.bytes),
+        b'l' => lend(rt, lines, count, scene, case),
         _ => Ok(lines),
     }
 }

@@ -28,60 +28,46 @@ ghost use Rattle.std.specs.Prelude.{◌≡◌, length};
 use dem_scene::{PlayerLine, Scene};
 use std::io;
 
+// What goes from line to line.
 #[derive(Drop)]
 struct State {
     scene: Scene,
     lines: [PlayerLine; 17],
 }
 
+// What a line asks: its letter as a small one, a place, and the bytes that it is asked of.
+#[derive(Clone, Copy)]
+struct Case<'a> {
+    letter: u8,
+    place: usize,
+    bytes: &'a [u8],
+}
+
 fn start() -> State {
-    let line = PlayerLine {
-        frags: 0,
-        colours: 0,
-    };
-    let lines = [line; 17];
-    let scene = dem_messages::start();
-    State { scene, lines }
+    State {
+        scene: dem_messages::start(),
+        lines: [PlayerLine::CLEARED; 17],
+    }
 }
 
 // The scene that what was asked leaves.
 fn scene_after(
     rt: &impl Print,
     scene: Scene,
-    letter: u8,
-    place: usize,
-    bytes: &[u8],
+    case: Case<'_>,
     room: &mut [u8],
 ) -> io::Result<Scene> {
-    match letter {
-        b'a' => recordings::read(rt, bytes),
-        b'h' => recordings::track(rt, scene, bytes),
-        b'd' => recordings::block(rt, scene, bytes, place),
-        b'g' => recordings::blocks(rt, scene, bytes, place),
-        b'k' => forms::normal(rt, scene, bytes, place, room),
-        b'b' => forms::normal_all(rt, scene, bytes, place, room),
-        b'r' => forms::recording(rt, bytes, room),
-        b't' => forms::track(rt, scene, bytes, room),
-        _ => messages::ask(rt, scene, letter, place, bytes, room),
+    match case.letter {
+        b'a' => recordings::read(rt, case),
+        b'h' => recordings::track(rt, scene, case),
+        b'd' => recordings::block(rt, scene, case),
+        b'g' => recordings::blocks(rt, scene, case),
+        b'k' => forms::normal(rt, scene, case, room),
+        b'b' => forms::normal_all(rt, scene, case, room),
+        b'r' => forms::recording(rt, case, room),
+        b't' => forms::track(rt, scene, case, room),
+        _ => messages::ask(rt, scene, case, room),
     }
-}
-
-fn ask(
-    rt: &impl Print,
-    s: State,
-    letter: u8,
-    place: usize,
-    bytes: &[u8],
-    room: &mut [u8],
-) -> io::Result<State> {
-    let scene = s.scene;
-    let lines = s.lines;
-    let lent = lent::ask(rt, lines, letter, room.len(), scene, bytes, place)?;
-    let after = scene_after(rt, scene, letter, place, bytes, room)?;
-    Ok(State {
-        scene: after,
-        lines: lent,
-    })
 }
 
 const MOST_ROOM: usize = 2304;
@@ -93,89 +79,65 @@ fn room() -> [u8; MOST_ROOM]
     [238; MOST_ROOM]
 }
 
-fn in_room(
-    rt: &impl Print,
-    s: State,
-    letter: u8,
-    place: usize,
-    len: usize,
-    bytes: &[u8],
-) -> io::Result<State> {
-    let mut b = room();
-    if len <= MOST_ROOM {
-        return ask(rt, s, letter, place, bytes, &mut b[..len]);
+// A case with room of so many bytes; where there is not so much, nothing is asked.
+fn ask(rt: &impl Print, s: State, case: Case<'_>, len: usize) -> io::Result<State> {
+    if MOST_ROOM < len {
+        return Ok(s);
     }
-    Ok(s)
+    let mut room = room();
+    let lines = lent::ask(rt, s.lines, len, s.scene, case)?;
+    let scene = scene_after(rt, s.scene, case, &mut room[..len])?;
+    Ok(State { scene, lines })
 }
 
-fn wide(b: u8) -> usize {
-    b as usize
-}
-
-fn short(rt: &impl Print, s: State, letter: u8, bytes: &[u8], len: usize) -> io::Result<State> {
-    if 2 <= len {
-        if len <= bytes.len() {
-            return in_room(
-                rt,
-                s,
+// Behind a small letter: a place, a length, and the bytes.
+fn short(rt: &impl Print, s: State, letter: u8, line: &[u8]) -> io::Result<State> {
+    match line {
+        [place, len, bytes @ ..] => {
+            let case = Case {
                 letter,
-                wide(bytes[0]),
-                wide(bytes[1]),
-                &bytes[2..len],
-            );
+                place: usize::from(*place),
+                bytes,
+            };
+            ask(rt, s, case, usize::from(*len))
         }
+        _ => Ok(s),
     }
-    Ok(s)
 }
 
-fn first(
-    rt: &impl Print,
-    s: State,
-    letter: u8,
-    place: usize,
-    len: usize,
-    bytes: &[u8],
-    count: usize,
-) -> io::Result<State> {
-    if count <= bytes.len() {
-        return in_room(rt, s, letter, place, len, &bytes[0..count]);
-    }
-    Ok(s)
-}
-
-fn unpacked(
-    rt: &impl Print,
-    s: State,
-    letter: u8,
-    place: usize,
-    len: usize,
-    packed: &[u8],
-) -> io::Result<State> {
-    let mut bytes = [0u8; 8192];
-    let count = hex::unpack(packed, &mut bytes);
-    first(rt, s, letter, place, len, &bytes, count)
-}
-
-fn long(rt: &impl Print, s: State, letter: u8, bytes: &[u8], len: usize) -> io::Result<State> {
-    if 4 <= len {
-        if len <= bytes.len() {
-            let place = hex::word(bytes[0], bytes[1]);
-            let room = hex::word(bytes[2], bytes[3]);
-            return unpacked(rt, s, letter, place, room, &bytes[4..len]);
+// Behind a capital letter: both in two bytes, and the bytes packed.
+fn long(rt: &impl Print, s: State, letter: u8, line: &[u8]) -> io::Result<State> {
+    match line {
+        [p, q, l, m, packed @ ..] => {
+            let mut bytes = [0u8; 8192];
+            let count = hex::unpack(packed, &mut bytes);
+            match bytes.get(..count) {
+                Some(bytes) => {
+                    let case = Case {
+                        letter,
+                        place: usize::from(u16::from_be_bytes([*p, *q])),
+                        bytes,
+                    };
+                    ask(rt, s, case, usize::from(u16::from_be_bytes([*l, *m])))
+                }
+                None => Ok(s),
+            }
         }
+        _ => Ok(s),
     }
-    Ok(s)
 }
 
 fn line(rt: &impl Print, s: State, text: &[u8]) -> io::Result<State> {
-    run_show::say(rt, text)?;
-    run_show::say(rt, b"\n")?;
+    rt.write_all(text)?;
+    print!(rt; "\n")?;
     let mut bytes = [0u8; 512];
     let len = hex::decode(text, &mut bytes);
-    let letter = hex::letter(text);
-    match letter {
-        b'a'..=b'z' => short(rt, s, letter, &bytes, len),
-        b'A'..=b'Z' => long(rt, s, letter - b'A' + b'a', &bytes, len),
+    let (Some(letter), Some(asked)) = (text.first(), bytes.get(..len)) else {
+        return Ok(s);
+    };
+    match *letter {
+        b'a'..=b'z' => short(rt, s, *letter, asked),
+        b'A'..=b'Z' => long(rt, s, letter.to_ascii_lowercase(), asked),
         _ => Ok(s),
     }
 }
@@ -183,6 +145,7 @@ fn line(rt: &impl Print, s: State, text: &[u8]) -> io::Result<State> {
 fn run(rt: &impl Print, text: &[u8]) -> io::Result<()> {
     let mut s = start();
     let mut at = 0;
+    // By `find`, whose promise has edits of its own, and not by `split`.
     while at < text.len() {
         let end = run_show::find(text, at, b'\n');
         s = line(rt, s, &text[at..end])?;

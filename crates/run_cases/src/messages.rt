@@ -1,42 +1,45 @@
 // Messages: read, written back, in normal form, and by a walker. Room held EE.
-use dem_messages::{MessageAnswer, NormalAnswer, WriteAnswer};
+use crate::Case;
+use crate::hex::byte_at;
+use dem_messages::Normal;
 use dem_scene::Scene;
 use dem_types::{Entity, Message, Temporary, Vector};
+use format::refusal::Refused;
+use run_show::scenes::show;
 use std::io;
 use wire::Text;
 
+// The messages that were counted, a refusal's number, 0 for none, and its place or that of the end.
 fn all(rt: &impl Print, block: &[u8], scene: Scene) -> io::Result<Scene> {
     let all = dem_walker::read_all(block, scene);
-    let after = all.scene;
-    run_show::count(rt, b"  all messages ", all.messages)?;
-    run_show::count(rt, b" refusal ", all.refusal as usize)?;
-    run_show::count(rt, b" place ", all.place)?;
-    run_show::say(rt, b"\n")?;
-    run_show::scenes::show(rt, after)?;
-    Ok(after)
+    let (messages, refusal, place) = match all.answer {
+        Ok(walked) => (walked.messages, 0, walked.place),
+        Err(r) => (0, u8::from(r.refusal), r.place),
+    };
+    print!(rt; "  all messages {messages} refusal {refusal} place {place}\n")?;
+    show(rt, &all.scene)?;
+    Ok(all.scene)
 }
 
 fn too_many_statics(scene: Scene) -> Scene {
-    let mut rest = scene.rest;
-    rest.statics = 129;
     let mut wrong = scene;
-    wrong.rest = rest;
+    wrong.rest.statics = 129;
     wrong
 }
 
 // With the number of present marks that two bytes say, whatever the marks are.
 fn with_present_count(scene: Scene, bytes: &[u8]) -> Scene {
     let mut changed = scene;
-    if 2 <= bytes.len() {
-        changed.present_count = word(bytes[0], bytes[1]) as usize;
+    if let [low, high, ..] = bytes {
+        changed.present_count = usize::from(u16::from_le_bytes([*low, *high]));
     }
     changed
 }
 
-pub fn shown(rt: &impl Print, room: &[u8]) -> io::Result<()> {
-    run_show::say(rt, b": ")?;
-    run_show::hex(rt, room, room.len())?;
-    run_show::say(rt, b"\n")
+pub fn room_shown(rt: &impl Print, room: &[u8]) -> io::Result<()> {
+    print!(rt; ": ")?;
+    run_show::hex(rt, room)?;
+    print!(rt; "\n")
 }
 
 fn put(
@@ -47,48 +50,26 @@ fn put(
     room: &mut [u8],
 ) -> io::Result<Scene> {
     let r = dem_messages::write_message(scene, m, text, room);
-    let answer = r.answer;
-    run_show::say(rt, b"  ")?;
-    match answer {
-        WriteAnswer::Written(n) => run_show::count(rt, b"written ", n)?,
-        WriteAnswer::Refused(n, at) => run_show::refused(rt, n, at)?,
+    match r.answer {
+        Ok(length) => print!(rt; "  written {length}")?,
+        Err(refused) => print!(rt; "  {refused}")?,
     }
-    shown(rt, room)?;
+    room_shown(rt, room)?;
     Ok(r.scene)
 }
 
 // The scene after the message; it is shown, and so is the one behind what was written.
-fn read(
-    rt: &impl Print,
-    scene: Scene,
-    bytes: &[u8],
-    place: usize,
-    room: &mut [u8],
-) -> io::Result<Scene> {
-    let r = dem_messages::read_message_at(scene, bytes, place);
-    let answer = r.answer;
-    let after = r.scene;
-    run_show::fields::answer(rt, answer, bytes)?;
-    match answer {
-        MessageAnswer::Found(m, _, _) => {
-            let written = put(rt, scene, m, bytes, room)?;
-            run_show::scenes::show(rt, written)?;
+fn read(rt: &impl Print, scene: Scene, case: Case<'_>, room: &mut [u8]) -> io::Result<Scene> {
+    let r = dem_messages::read_message_at(scene, case.bytes, case.place);
+    run_show::fields::answer(rt, r.answer, case.bytes)?;
+    match r.answer {
+        Ok(Some(found)) => {
+            let written = put(rt, scene, found.message, case.bytes, room)?;
+            show(rt, &written)?;
         }
-        MessageAnswer::End => run_show::scenes::show(rt, after)?,
-        MessageAnswer::Refused(_, _) => run_show::scenes::show(rt, after)?,
+        _ => show(rt, &r.scene)?,
     }
-    Ok(after)
-}
-
-fn byte_at(bytes: &[u8], i: usize) -> u8 {
-    if i < bytes.len() {
-        return bytes[i];
-    }
-    0
-}
-
-fn word(low: u8, high: u8) -> u16 {
-    low as u16 + 256 * (high as u16)
+    Ok(r.scene)
 }
 
 // A type, a case, and a line's entity in two bytes.
@@ -99,7 +80,7 @@ fn made_temporary(bytes: &[u8]) -> Temporary {
         0 => Temporary::Point(kind, zero),
         1 => Temporary::Line(
             kind,
-            Entity(word(byte_at(bytes, 2), byte_at(bytes, 3))),
+            Entity(u16::from_le_bytes([byte_at(bytes, 2), byte_at(bytes, 3)])),
             zero,
             zero,
         ),
@@ -107,97 +88,68 @@ fn made_temporary(bytes: &[u8]) -> Temporary {
     }
 }
 
-fn made(bytes: &[u8], kind: usize) -> Message {
-    let first = byte_at(bytes, 0);
-    let second = byte_at(bytes, 1);
-    match kind {
-        3 => Message::Stat(first, second as i32),
+// The place is its kind.
+fn made(case: Case<'_>) -> Message {
+    let first = byte_at(case.bytes, 0);
+    let second = byte_at(case.bytes, 1);
+    match case.place {
+        3 => Message::Stat(first, i32::from(second)),
         8 => Message::Print(Text {
-            start: first as usize,
-            len: second as usize,
+            start: usize::from(first),
+            len: usize::from(second),
         }),
-        23 => Message::Temporary(made_temporary(bytes)),
+        23 => Message::Temporary(made_temporary(case.bytes)),
         _ => Message::Nop,
     }
 }
 
-fn write(
-    rt: &impl Print,
-    scene: Scene,
-    bytes: &[u8],
-    kind: usize,
-    room: &mut [u8],
-) -> io::Result<Scene> {
-    let after = put(rt, scene, made(bytes, kind), bytes, room)?;
-    run_show::scenes::show(rt, after)?;
+fn write(rt: &impl Print, scene: Scene, case: Case<'_>, room: &mut [u8]) -> io::Result<Scene> {
+    let after = put(rt, scene, made(case), case.bytes, room)?;
+    show(rt, &after)?;
     Ok(after)
 }
 
-pub fn normal_answer(rt: &impl Print, answer: NormalAnswer) -> io::Result<()> {
+pub fn normal_answer(rt: &impl Print, answer: Result<Option<Normal>, Refused>) -> io::Result<()> {
     match answer {
-        NormalAnswer::Written(n, next) => {
-            run_show::count(rt, b"  written ", n)?;
-            run_show::count(rt, b" next ", next)
-        }
-        NormalAnswer::End => run_show::say(rt, b"  end"),
-        NormalAnswer::Refused(n, at) => {
-            run_show::say(rt, b"  ")?;
-            run_show::refused(rt, n, at)
-        }
+        Ok(Some(normal)) => print!(rt; "  written {} next {}", normal.length, normal.next),
+        Ok(None) => print!(rt; "  end"),
+        Err(refused) => print!(rt; "  {refused}"),
     }
 }
 
-fn normal(
-    rt: &impl Print,
-    scene: Scene,
-    bytes: &[u8],
-    place: usize,
-    room: &mut [u8],
-) -> io::Result<Scene> {
-    let r = dem_messages::normal_message_at(scene, bytes, place, room);
-    let answer = r.answer;
-    let after = r.scene;
-    normal_answer(rt, answer)?;
-    shown(rt, room)?;
-    run_show::scenes::show(rt, after)?;
-    Ok(after)
+fn normal(rt: &impl Print, scene: Scene, case: Case<'_>, room: &mut [u8]) -> io::Result<Scene> {
+    let r = dem_messages::normal_message_at(scene, case.bytes, case.place, room);
+    normal_answer(rt, r.answer)?;
+    room_shown(rt, room)?;
+    show(rt, &r.scene)?;
+    Ok(r.scene)
 }
 
 // The scene after three steps.
 fn walk(rt: &impl Print, scene: Scene, block: &[u8]) -> io::Result<Scene> {
     let after = run_walks::three_steps(rt, block, scene)?;
-    run_show::scenes::show(rt, after)?;
+    show(rt, &after)?;
     all(rt, block, scene)?;
     Ok(after)
 }
 
 fn entity(rt: &impl Print, scene: Scene, bytes: &[u8]) -> io::Result<Scene> {
-    run_show::scenes::entity(
-        rt,
-        scene,
-        word(byte_at(bytes, 0), byte_at(bytes, 1)) as usize,
-    )?;
+    let i = u16::from_le_bytes([byte_at(bytes, 0), byte_at(bytes, 1)]);
+    run_show::scenes::entity(rt, &scene, usize::from(i))?;
     Ok(scene)
 }
 
 // The scene that what was asked leaves.
-pub fn ask(
-    rt: &impl Print,
-    scene: Scene,
-    letter: u8,
-    place: usize,
-    bytes: &[u8],
-    room: &mut [u8],
-) -> io::Result<Scene> {
-    match letter {
-        b's' => all(rt, bytes, dem_messages::start()),
+pub fn ask(rt: &impl Print, scene: Scene, case: Case<'_>, room: &mut [u8]) -> io::Result<Scene> {
+    match case.letter {
+        b's' => all(rt, case.bytes, dem_messages::start()),
         b'o' => Ok(too_many_statics(scene)),
-        b'c' => Ok(with_present_count(scene, bytes)),
-        b'e' => entity(rt, scene, bytes),
-        b'm' => read(rt, scene, bytes, place, room),
-        b'n' => normal(rt, scene, bytes, place, room),
-        b'p' => write(rt, scene, bytes, place, room),
-        b'w' => walk(rt, scene, bytes),
+        b'c' => Ok(with_present_count(scene, case.bytes)),
+        b'e' => entity(rt, scene, case.bytes),
+        b'm' => read(rt, scene, case, room),
+        b'n' => normal(rt, scene, case, room),
+        b'p' => write(rt, scene, case, room),
+        b'w' => walk(rt, scene, case.bytes),
         _ => Ok(scene),
     }
 }

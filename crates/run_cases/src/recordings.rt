@@ -1,91 +1,77 @@
 // Recordings, track lines and blocks, read.
-use dem_recordings::{BlockAnswer, BlocksAnswer, Outline, Progress, RecordingAnswer, TrackAnswer};
+use crate::Case;
+use dem_recordings::Progress;
 use dem_scene::Scene;
+use run_show::fields::refusal;
+use run_show::scenes::show;
 use std::io;
 
-fn counts(rt: &impl Print, track: i16, blocks: usize, messages: usize) -> io::Result<()> {
-    run_show::say(rt, b"  track ")?;
-    run_show::decimal(rt, run_show::short(track))?;
-    run_show::count(rt, b" blocks ", blocks)?;
-    run_show::count(rt, b" messages ", messages)?;
-    run_show::say(rt, b"\n")
-}
-
 // The scene that the recording leads to; with a refusal, the scene at the start.
-pub fn read(rt: &impl Print, bytes: &[u8]) -> io::Result<Scene> {
-    let r = dem_recordings::read_recording(bytes);
-    let answer = r.answer;
-    let after = r.scene;
-    match answer {
-        RecordingAnswer::Read(track, blocks, messages) => counts(rt, track, blocks, messages)?,
-        RecordingAnswer::Refused(n, at) => run_show::fields::refusal(rt, n, at)?,
+pub fn read(rt: &impl Print, case: Case<'_>) -> io::Result<Scene> {
+    let r = dem_recordings::read_recording(case.bytes);
+    match r.answer {
+        Ok(s) => print!(rt;
+            "  track {} blocks {} messages {}\n",
+            s.track, s.blocks, s.messages
+        )?,
+        Err(refused) => refusal(rt, refused)?,
     }
-    run_show::scenes::show(rt, after)?;
-    Ok(after)
-}
-
-fn track_line(rt: &impl Print, track: i16, next: usize) -> io::Result<()> {
-    run_show::say(rt, b"  track ")?;
-    run_show::decimal(rt, run_show::short(track))?;
-    run_show::count(rt, b" next ", next)?;
-    run_show::say(rt, b"\n")
+    show(rt, &r.scene)?;
+    Ok(r.scene)
 }
 
 // The scene is not asked for, and stays.
-pub fn track(rt: &impl Print, scene: Scene, bytes: &[u8]) -> io::Result<Scene> {
-    match dem_recordings::read_track(bytes) {
-        TrackAnswer::Found(track, next) => track_line(rt, track, next)?,
-        TrackAnswer::Refused(n, at) => run_show::fields::refusal(rt, n, at)?,
+pub fn track(rt: &impl Print, scene: Scene, case: Case<'_>) -> io::Result<Scene> {
+    match dem_recordings::read_track(case.bytes) {
+        Ok(track) => print!(rt; "  track {} next {}\n", track.number, track.next)?,
+        Err(refused) => refusal(rt, refused)?,
     }
     Ok(scene)
 }
 
-fn outline(rt: &impl Print, o: Outline) -> io::Result<()> {
-    run_show::digits(rt, b"  angles ", o.angle0 as u64, 8)?;
-    run_show::digits(rt, b" ", o.angle1 as u64, 8)?;
-    run_show::digits(rt, b" ", o.angle2 as u64, 8)?;
-    run_show::count(rt, b" start ", o.start)?;
-    run_show::count(rt, b" messages ", o.messages)?;
-    run_show::count(rt, b" next ", o.next)?;
-    run_show::say(rt, b"\n")
-}
-
-pub fn block(rt: &impl Print, scene: Scene, bytes: &[u8], place: usize) -> io::Result<Scene> {
-    let r = dem_recordings::read_block_at(scene, bytes, place);
-    let answer = r.answer;
-    let after = r.scene;
-    match answer {
-        BlockAnswer::Found(o) => outline(rt, o)?,
-        BlockAnswer::End => run_show::say(rt, b"  end\n")?,
-        BlockAnswer::Refused(n, at) => run_show::fields::refusal(rt, n, at)?,
+pub fn block(rt: &impl Print, scene: Scene, case: Case<'_>) -> io::Result<Scene> {
+    let r = dem_recordings::read_block_at(scene, case.bytes, case.place);
+    match r.answer {
+        Ok(Some(o)) => {
+            print!(rt;
+                "  angles {:08x} {:08x} {:08x}",
+                o.angle0, o.angle1, o.angle2
+            )?;
+            print!(rt;
+                " start {} messages {} next {}\n",
+                o.start, o.messages, o.next
+            )?;
+        }
+        Ok(None) => print!(rt; "  end\n")?,
+        Err(refused) => refusal(rt, refused)?,
     }
-    run_show::scenes::show(rt, after)?;
-    Ok(after)
+    show(rt, &r.scene)?;
+    Ok(r.scene)
 }
 
-// How many blocks and messages were read, the place behind them, and the refusal met there.
+// How many blocks and messages were read, the place behind them, and the refusal met there, 0 for none.
 pub fn progress(rt: &impl Print, p: Progress) -> io::Result<()> {
-    run_show::count(rt, b"blocks ", p.blocks)?;
-    run_show::count(rt, b" messages ", p.messages)?;
-    run_show::count(rt, b" next ", p.next)?;
-    run_show::count(rt, b" refusal ", p.refusal as usize)?;
-    run_show::count(rt, b" place ", p.place)
+    print!(rt;
+        "blocks {} messages {} next {}",
+        p.blocks, p.messages, p.next
+    )?;
+    let (refusal, place) = match p.refused {
+        Some(r) => (u8::from(r.refusal), r.place),
+        None => (0, p.next),
+    };
+    print!(rt; " refusal {refusal} place {place}")
 }
 
-fn blocks_read(rt: &impl Print, p: Progress) -> io::Result<()> {
-    run_show::say(rt, b"  ")?;
-    progress(rt, p)?;
-    run_show::say(rt, b"\n")
-}
-
-pub fn blocks(rt: &impl Print, scene: Scene, bytes: &[u8], place: usize) -> io::Result<Scene> {
-    let r = dem_recordings::read_blocks_at(scene, bytes, place);
-    let answer = r.answer;
-    let after = r.scene;
-    match answer {
-        BlocksAnswer::Read(p) => blocks_read(rt, p)?,
-        BlocksAnswer::Refused(n, at) => run_show::fields::refusal(rt, n, at)?,
+pub fn blocks(rt: &impl Print, scene: Scene, case: Case<'_>) -> io::Result<Scene> {
+    let r = dem_recordings::read_blocks_at(scene, case.bytes, case.place);
+    match r.answer {
+        Ok(p) => {
+            print!(rt; "  ")?;
+            progress(rt, p)?;
+            print!(rt; "\n")?;
+        }
+        Err(refused) => refusal(rt, refused)?,
     }
-    run_show::scenes::show(rt, after)?;
-    Ok(after)
+    show(rt, &r.scene)?;
+    Ok(r.scene)
 }

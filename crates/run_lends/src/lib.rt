@@ -3,21 +3,25 @@
 
 ghost use Rattle.std.specs.Prelude.{◌≤◌};
 
-use dem_lines::{LineChange, LinesAnswer};
-use dem_messages::MessageReply;
+use dem_lines::LineChange;
+use dem_messages::{Found, Reply};
 use dem_scene::{PlayerLine, Scene};
+use format::refusal::Refused;
 use std::io;
 
 // Shows what a change and a message were answered, and the scene that the message left.
-fn told(rt: &impl Print, bytes: &[u8], change: LinesAnswer, reply: MessageReply) -> io::Result<()> {
+fn told(
+    rt: &impl Print,
+    bytes: &[u8],
+    change: Result<(), Refused>,
+    reply: Reply<Option<Found>>,
+) -> io::Result<()> {
     match change {
-        LinesAnswer::Changed => run_show::say(rt, b"  changed\n")?,
-        LinesAnswer::Refused(n, at) => run_show::fields::refusal(rt, n, at)?,
+        Ok(()) => print!(rt; "  changed\n")?,
+        Err(r) => run_show::fields::refusal(rt, r)?,
     }
-    let answer = reply.answer;
-    let after = reply.scene;
-    run_show::fields::answer(rt, answer, bytes)?;
-    run_show::scenes::show(rt, after)
+    run_show::fields::answer(rt, reply.answer, bytes)?;
+    run_show::scenes::show(rt, &reply.scene)
 }
 
 // Lends the first lines twice: for a change, and for the message at a place of some bytes, in a scene. The lines behind both.

@@ -4,33 +4,21 @@
 
 ghost use Rattle.std.specs.Prelude.{◌≤◌, length};
 
-use dem_recordings::{BlockAnswer, TrackAnswer};
-use input_pieces::Filled;
+use format::refusal::Refused;
+use input_pieces::{Filled, Stop};
 use std::io;
-
-fn block_line(rt: &impl Print, place: usize, present_count: usize) -> io::Result<()> {
-    run_show::count(rt, b"block ", place)?;
-    run_show::count(rt, b" present ", present_count)?;
-    run_show::say(rt, b"\n")
-}
-
-fn refused(rt: &impl Print, refusal: u8, place: usize) -> io::Result<()> {
-    run_show::refused(rt, refusal, place)?;
-    run_show::say(rt, b"\n")
-}
 
 fn complain(rt: &impl Eprint) -> io::Result<()> {
     eprintln!(rt; "run_overlay: cannot read standard input")
 }
 
-// What is answered behind the last good block, in an array behind so many bytes of the recording.
-fn verdict(rt: &impl Print, answer: BlockAnswer, before: usize) -> io::Result<()> {
-    match answer {
-        BlockAnswer::Refused(refusal, place) => {
-            refused(rt, refusal, dem_stream::place_behind(before, place))
-        }
-        _ => run_show::say(rt, b"accepted\n"),
-    }
+// A refusal in an array behind so many bytes of the recording.
+fn refused(rt: &impl Print, r: Refused, before: usize) -> io::Result<()> {
+    let r = Refused {
+        refusal: r.refusal,
+        place: dem_stream::place_behind(before, r.place),
+    };
+    println!(rt; "{r}")
 }
 
 // The blocks from a place of the array on, and all that follow. A full array holds a whole block, so that one refused at its start is refused
@@ -39,34 +27,30 @@ fn show_blocks(rt: &HostRuntime, input: &mut [u8], filled: Filled, from: usize) 
     requires { filled.len ≤ length input.old }
 {
     let mut scene = dem_messages::start();
-    let mut len = filled.len;
-    let mut last = filled.ended;
+    let mut filled = filled;
     let mut at = from;
     let mut before = 0;
     for _ in 0..u64::MAX {
-        let reply = dem_recordings::read_block_at(scene, &input[0..len], at);
-        let answer = reply.answer;
-        if let BlockAnswer::Found(outline) = answer {
+        let reply = dem_recordings::read_block_at(scene, &input[..filled.len], at);
+        if let Ok(Some(outline)) = reply.answer {
             scene = reply.scene;
-            block_line(
-                rt,
-                dem_stream::place_behind(before, at),
-                scene.present_count,
-            )?;
+            let place = dem_stream::place_behind(before, at);
+            println!(rt; "block {place} present {}", scene.present_count)?;
             at = outline.next;
             continue;
         }
-        if last | (at == 0) {
-            return verdict(rt, answer, before);
+        if filled.stop == Stop::Ended || at == 0 {
+            return match reply.answer {
+                Err(r) => refused(rt, r, before),
+                Ok(_) => println!(rt; "accepted"),
+            };
         }
         before = dem_stream::place_behind(before, at);
-        let left = dem_stream::move_front(input, at, len);
-        let more = input_pieces::fill(&mut rt.stdin(), input, left);
-        if more.failed {
+        let left = dem_stream::move_front(input, at, filled.len);
+        filled = input_pieces::fill(&mut rt.stdin(), input, left);
+        if filled.stop == Stop::Failed {
             return complain(rt);
         }
-        len = more.len;
-        last = more.ended;
         at = 0;
     }
     complain(rt)
@@ -74,14 +58,12 @@ fn show_blocks(rt: &HostRuntime, input: &mut [u8], filled: Filled, from: usize) 
 
 fn show(rt: &HostRuntime, input: &mut [u8]) -> io::Result<()> {
     let filled = input_pieces::fill(&mut rt.stdin(), input, 0);
-    if filled.failed {
+    if filled.stop == Stop::Failed {
         return complain(rt);
     }
-    let len = filled.len;
-    let track = dem_recordings::read_track(&input[0..len]);
-    match track {
-        TrackAnswer::Found(_, next) => show_blocks(rt, input, filled, next),
-        TrackAnswer::Refused(refusal, place) => refused(rt, refusal, place),
+    match dem_recordings::read_track(&input[..filled.len]) {
+        Ok(track) => show_blocks(rt, input, filled, track.next),
+        Err(r) => refused(rt, r, 0),
     }
 }
 

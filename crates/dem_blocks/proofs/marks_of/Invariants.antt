@@ -1,5 +1,4 @@
 use mathlib.Core.Path.{◌≡◌}
-use Prim.Native.Nat.{◌-◌}
 use lib.ListN.{length}
 use Rattle.dem.specs.Limits.{entity_count}
 use Rattle.format.specs.Bytes.{bit_of}
@@ -8,6 +7,3 @@ use Rattle.dem_blocks.proofs.marks_of.Given as goal
 
 abbrev pub invariant-loop-i : goal.invariant-loop-i
 invariant-loop-i l = (length l.present ≡ entity_count) × Made bit_of l.present l.marks l.i
-
-abbrev pub decreases-loop-i : goal.decreases-loop-i
-decreases-loop-i l = entity_count - l.i

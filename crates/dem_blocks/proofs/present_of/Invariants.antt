@@ -1,5 +1,4 @@
 use mathlib.Core.Path.{◌≡◌}
-use Prim.Native.Nat.{◌-◌}
 use lib.ListN.{length}
 use lib.Dec.{ltb}
 use Rattle.dem.specs.Limits.{entity_count}
@@ -10,7 +9,4 @@ use Rattle.dem_blocks.proofs.present_of.Given as goal
 
 abbrev pub invariant-loop-i : goal.invariant-loop-i
 invariant-loop-i l =
-    (length l.marks ≡ entity_count) × Made (ltb l.since) l.marks l.present l.i × CountedTo (marked l.since l.marks) l.i l.count
-
-abbrev pub decreases-loop-i : goal.decreases-loop-i
-decreases-loop-i l = entity_count - l.i
+    (length l.marks ≡ entity_count) × Made (ltb l.since) l.marks l.set l.i × CountedTo (marked l.since l.marks) l.i l.count

@@ -12,6 +12,6 @@ use Rattle.dem_blocks.proofs.read_blocks.Goals as goal
 pub returns : goal.returns
 returns c =
     let a = c.args in
-    ap (λ (w : Wrote). w.told) c.write_blocks-w.ensures
+    ap (λ (w : Wrote). w.told) c.write_blocks.ensures
     ∙ ap (λ (w : WrittenRun Scene Block). told_with (scene_of a.given) (length a.d.now) 0 0 w)
     (written_none blocks a.most 0 (scene_of a.given) (drop a.from a.d.now))

@@ -9,25 +9,30 @@ use native.Mathlib.Omega.{arith}
 use lib.ListN.{length, take, drop, get_or}
 use borrow.Author.Tests.{not-true}
 use Rattle.dem.specs.Kind
-use Rattle.dem.specs.Scene.{Scene, in_range}
+use Rattle.dem.specs.Scene.{Scene, context_of, in_range}
 use Rattle.dem.proofs.RangeLaws.{range→}
 use Rattle.dem.specs.Recording.{messages}
 use Rattle.format.specs.Codec.{read_all}
-use Rattle.format.proofs.LayoutLaws.{both_false}
+use Rattle.std.specs.Prelude.{Option}
+use Rattle.format.specs.Bytes.{refused}
+use Rattle.format.specs.Layout.{parse}
+use Rattle.format.specs.Refusals.{number_of}
+use Rattle.format.specs.declared.refusal.Refused.{Refused}
+use Rattle.dem.specs.Message.{layout_in}
 use Rattle.dem_framing.proofs.HeadLaws.{block-ended}
 use Rattle.dem_scene.specs.Views.{scene_with, scene_of, baseline_numbers, record_numbers}
 use Rattle.dem_direct.specs.Heads.{HeadLoaded, FieldsLoaded}
 use Rattle.dem_direct.specs.declared.LoadedHead.{LoadedHead}
 use Rattle.dem_direct.specs.declared.RecordAt.{RecordAt}
-use Rattle.dem_blocks.specs.Runs.{Wrote, stored, wrote_of, run_of}
+use Rattle.dem_blocks.specs.Runs.{refused_in, refusal_in, place_in, Wrote, stored, wrote_of, run_of}
 use Rattle.dem_blocks.specs.Marks.{marked}
 use Rattle.dem_blocks.proofs.Marks.{within_more, within_bits, marked_bits}
 use Rattle.dem_blocks.proofs.SoFar.{far_begins}
-use Rattle.dem_blocks.proofs.Turns.{before_stop, head-refused, run_over}
+use Rattle.dem_blocks.proofs.Turns.{before_stop, head-place, head-refused, run_over}
 use Rattle.dem_blocks.proofs.Arms.{held, given_held, no_baseline, ended-refused}
-use Rattle.dem_blocks.proofs.Places.{at_block, before, Opened, open_block, end, body, from-here, body-long, refuse-message, Refuses, Place, Ending, scene, Loaded, less, loaded-read, loaded_on, loaded-less, loaded-later, stop-block, refuse-parsed, turn-less, turned, turned-still, unmarked-less, unmarked, room-long, short-refused, enough, goes_on}
-use Rattle.dem_blocks.proofs.Steps.{sound-parsed, sound-step, time-parsed, time-read, client-parsed, client-step, pass-parsed, pass-step, other-read, baseline-entity, baseline-step, serverinfo-read, rest-step, again-step, sent-read, sent-entity, sent-step, sent-later}
-use Rattle.dem_blocks.proofs.write_blocks.Goals.{After-context-x, After-end_block-e, After-loaded_until-reads, In-loop-at-2, In-loop-at-3, In_default, Left-loop-blocks, else-loop-blocks-test, in-128-to-255+else-wrong-eq0-6, in-15+else-wrong-eq0-3, in-6+else-wrong-eq0, in-7+else-wrong-eq0-2, in_default+else-is_passed+else-wrong-eq0-5, in_default+then-is_passed+else-wrong-eq0-4, then-loop-blocks-test+else-rest+then-refusal-ne0, then-loop-blocks-test+then-rest}
+use Rattle.dem_blocks.proofs.Places.{at_block, before, Opened, open_block, end, body, from-here, body-long, refuse-message, Refuses, Answered, Place, Ending, scene, Loaded, less, loaded-read, loaded_on, loaded-less, loaded-later, stop-block, refuse-parsed, turn-less, turned, turned-still, unmarked-less, unmarked, room-long, short-refused, goes_on}
+use Rattle.dem_blocks.proofs.Steps.{sound-parsed, sound-step, time-parsed, time-read, client-wrong, client-step, pass-wrong, pass-step, other-read, baseline-entity, baseline-step, serverinfo-read, rest-step, again-step, sent-read, sent-entity, sent-step, sent-later}
+use Rattle.dem_blocks.proofs.write_blocks.Goals.{After-context-x, After-end_block, After-loaded_until-reads, In-loop-at-2, In-loop-at-3, In_default-k, Left-loop-blocks, else-loop-blocks-test, in-128-to-255+in-Err-read_update, in-15+in-Err-client_turn, in-6+in-Err-sound_turn, in-7+in-Err-time_at, in_default-k+else-is_passed+in-Err-read_message, in_default-k+then-is_passed+in-Err-pass_message, then-loop-blocks-test+else-rest+in-Err, then-loop-blocks-test+then-rest}
 use Rattle.dem_blocks.proofs.write_blocks.Goals as goal
 
 pub loop-blocks-init : goal.loop-blocks-init
@@ -58,8 +63,8 @@ loop-blocks-init c =
 -- ---- the loop over messages
 
 abbrev opening : (c : goal.After-loaded_until-reads) → Opened
-opening c = open_block (at_block c.loop-blocks.invariant c.type_inv.d c.loop-blocks-test.true) c.read_head-h.result c.if-rest.false
-    c.read_head-h.ensures.result_value c.if-refusal-ne0.false c.read_head-h.ensures.within
+opening c = open_block (at_block c.loop-blocks.invariant c.type_inv.d c.loop-blocks-test.true) c.in-Ok.h c.if-rest.false
+    c.in-Ok.ensures.value c.in-Ok.ensures.within
 
 pub loop-at-init : goal.loop-at-init
 loop-at-init c =
@@ -67,7 +72,7 @@ loop-at-init c =
     let b = o.block in
     let i = b.kept in (
       omega (arith, body-long o, i.few),
-      omega (arith, body-long o, c.read_head-h.ensures.small c.if-refusal-ne0.false),
+      omega (arith, body-long o, c.in-Ok.ensures.small),
       i.body_long,
       i.ranged,
       ap (λ (x : List ℕ). from-here o b.messages (before b) x (read_all messages (before b) (drop (b.start + 16) (body o)))) (sym (far_begins (body o) b.on b.body (b.start + 16))),
@@ -84,15 +89,15 @@ pub returns-then-rest-2 : goal.returns-then-rest-2
 returns-then-rest-2 c =
     let o = opening (goal.at.returns-then-rest-2 c).After-loaded_until-reads in
     let k = c.loop-at in
-    refuse-message o k.messages (held k.baselines k.records (marked k.since k.marks) k.rest) k.body k.at k.size k.kept k.marks k.since k.invariant c.loop-at-test.true 11
+    refuse-message o k.messages (held k.baselines k.records (marked k.since k.marks) k.rest) k.body k.at k.scratch.size k.scratch.kept k.marks k.since k.invariant c.loop-at-test.true 11
     (ended-refused (body o) k.at c.loop-at-test.true k.baselines k.records (marked k.since k.marks) k.rest c.if-rest-2.true)
     c.refused_in.result (c.refused_in.ensures.read_value, c.refused_in.ensures.bytes)
 
 -- ---- an update that is to be written
 
 abbrev open_writing : goal.In-loop-at-2 → Opened
-open_writing c = open_block (at_block c.loop-blocks.invariant c.type_inv.d c.loop-blocks-test.true) c.read_head-h.result c.if-rest.false
-    c.read_head-h.ensures.result_value c.if-refusal-ne0.false c.read_head-h.ensures.within
+open_writing c = open_block (at_block c.loop-blocks.invariant c.type_inv.d c.loop-blocks-test.true) c.in-Ok.h c.if-rest.false
+    c.in-Ok.ensures.value c.in-Ok.ensures.within
 
 -- It is written, and all bytes that it could have are there.
 to_write : (c : goal.In-loop-at-2) → (c.args.on ≡ true) × (c.loop-at-2.at < end (open_writing c)) × (c.loop-at-2.at + 18 ≤ length c.args.d.now)
@@ -112,8 +117,8 @@ writing c =
       filled = k.body;
       count = l.messages;
       at = l.at;
-      size = k.size;
-      kept = k.kept;
+      size = k.scratch.size;
+      kept = k.scratch.kept;
       reached = (i.0, i.1, i.2, i.3, k.invariant.4 ∙ i.4, i.5, i.6);
       inside = omega (arith, (to_write c).1, body-long (open_writing c));
       going = c.if-rest-2.false;
@@ -127,28 +132,26 @@ loaded p h f head fields ends = record { head = head; fields = record { fields =
 pub loop-at-2-smaller : goal.loop-at-2-smaller
 loop-at-2-smaller c =
     let p = writing (goal.at.loop-at-2-smaller c).In-loop-at-2 in
-    let t = both_false c.load_head-q.result.left c.load_head-q.result.head.needless c.if-q.false in
-    let h = c.load_head-q.result in
-    let f = c.needed_fields-f in
-    let l = loaded p h f.result (c.load_head-q.ensures t.0) (f.ensures.fields_loaded c.if-f.false) c.if-end-to.false in
-    less p _ f.result.next _ (loaded-read p h f.result l)
+    let h = c.in-Some in
+    let f = c.in-Some-needed_fields in
+    let l = loaded p h.q f.f h.ensures f.ensures.fields_loaded c.if-end-to.false in
+    less p _ f.f.next _ (loaded-read p h.q f.f l)
 
 pub loop-at-2-preserved : goal.loop-at-2-preserved
 loop-at-2-preserved c =
     let p = writing (goal.at.loop-at-2-preserved c).In-loop-at-2 in
-    let t = both_false c.load_head-q.result.left c.load_head-q.result.head.needless c.if-q.false in
-    let h = c.load_head-q.result in
-    let f = c.needed_fields-f in
-    let l = loaded p h f.result (c.load_head-q.ensures t.0) (f.ensures.fields_loaded c.if-f.false) c.if-end-to.false in
-    let q = loaded_on p h f.result l (λ on. (f.ensures.needed c.if-f.false, t.1)) in
+    let h = c.in-Some in
+    let f = c.in-Some-needed_fields in
+    let l = loaded p h.q f.f h.ensures f.ensures.fields_loaded c.if-end-to.false in
+    let q = loaded_on p h.q f.f l (λ on. (f.ensures.needed, c.if-q.false)) in
     let i = c.loop-at-2.invariant in
-    ((q.0, q.1, q.2, q.3, i.0.4 ∙ q.4, q.5, q.6), omega (arith, i.1, loaded-less p h f.result l))
+    ((q.0, q.1, q.2, q.3, i.0.4 ∙ q.4, q.5, q.6), omega (arith, i.1, loaded-less p h.q f.f l))
 
 -- ---- an update that is only read
 
 abbrev open_reading : goal.In-loop-at-3 → Opened
-open_reading c = open_block (at_block c.loop-blocks.invariant c.type_inv.d c.loop-blocks-test.true) c.read_head-h.result c.if-rest.false
-    c.read_head-h.ensures.result_value c.if-refusal-ne0.false c.read_head-h.ensures.within
+open_reading c = open_block (at_block c.loop-blocks.invariant c.type_inv.d c.loop-blocks-test.true) c.in-Ok.h c.if-rest.false
+    c.in-Ok.ensures.value c.in-Ok.ensures.within
 
 to_read : (c : goal.In-loop-at-3) → (c.args.on ≡ false) × (c.loop-at-3.at < end (open_reading c)) × (c.loop-at-3.at + 18 ≤ length c.args.d.now)
 to_read c =
@@ -169,8 +172,8 @@ reading c =
       filled = k.body;
       count = l.messages;
       at = l.at;
-      size = k.size;
-      kept = k.kept;
+      size = k.scratch.size;
+      kept = k.scratch.kept;
       reached = (i.0, i.1, i.2, i.3, k.invariant.4 ∙ c.loop-at-2.invariant.0.4 ∙ i.4, i.5, i.6);
       inside = omega (arith, (to_read c).1, body-long (open_reading c));
       going = c.if-rest-2.false;
@@ -178,23 +181,22 @@ reading c =
 
 pub loop-at-3-smaller : goal.loop-at-3-smaller
 loop-at-3-smaller c =
-    let r = (goal.at.loop-at-3-smaller c).In-loop-at-3 in
-    let p = reading r in
-    let h = c.load_head-q-in-loop-at-3 in
-    let f = c.update_fields-f in
-    let l : Loaded p h.result f.result = record { head = h.ensures c.if-q-2.false; fields = f.ensures c.if-f-2.false } in
-    less p _ f.result.next _ (loaded-read p h.result f.result l)
+    let p = reading (goal.at.loop-at-3-smaller c).In-loop-at-3 in
+    let h = c.in-Some-load_head in
+    let f = c.in-Some-update_fields in
+    let l : Loaded p h.q f.f = record { head = h.ensures; fields = f.ensures } in
+    less p _ f.f.next _ (loaded-read p h.q f.f l)
 
 pub loop-at-3-preserved : goal.loop-at-3-preserved
 loop-at-3-preserved c =
     let r = (goal.at.loop-at-3-preserved c).In-loop-at-3 in
     let p = reading r in
-    let h = c.load_head-q-in-loop-at-3 in
-    let f = c.update_fields-f in
-    let l : Loaded p h.result f.result = record { head = h.ensures c.if-q-2.false; fields = f.ensures c.if-f-2.false } in
-    let q = loaded_on p h.result f.result l (λ on. absurd (true≢false (sym on ∙ (to_read r).0))) in
+    let h = c.in-Some-load_head in
+    let f = c.in-Some-update_fields in
+    let l : Loaded p h.q f.f = record { head = h.ensures; fields = f.ensures } in
+    let q = loaded_on p h.q f.f l (λ on. absurd (true≢false (sym on ∙ (to_read r).0))) in
     let i = c.loop-at-3.invariant in
-    ((q.0, q.1, q.2, q.3, i.0.4 ∙ q.4, q.5, q.6), omega (arith, i.1, loaded-less p h.result f.result l))
+    ((q.0, q.1, q.2, q.3, i.0.4 ∙ q.4, q.5, q.6), omega (arith, i.1, loaded-less p h.q f.f l))
 
 pub loop-at-preserved-then-s-at : goal.loop-at-preserved-then-s-at
 loop-at-preserved-then-s-at c =
@@ -204,8 +206,8 @@ loop-at-preserved-then-s-at c =
 -- ---- another message
 
 abbrev open_message : goal.After-context-x → Opened
-open_message c = open_block (at_block c.loop-blocks.invariant c.type_inv.d c.loop-blocks-test.true) c.read_head-h.result c.if-rest.false
-    c.read_head-h.ensures.result_value c.if-refusal-ne0.false c.read_head-h.ensures.within
+open_message c = open_block (at_block c.loop-blocks.invariant c.type_inv.d c.loop-blocks-test.true) c.in-Ok.h c.if-rest.false
+    c.in-Ok.ensures.value c.in-Ok.ensures.within
 
 abbrev message : (c : goal.After-context-x) → Place (open_message c)
 message c =
@@ -221,8 +223,8 @@ message c =
       filled = k.body;
       count = l.messages;
       at = l.at;
-      size = k.size;
-      kept = k.kept;
+      size = k.scratch.size;
+      kept = k.scratch.kept;
       reached = (i.0, i.1, i.2, i.3, k.invariant.4 ∙ c.loop-at-2.invariant.0.4 ∙ i.4, i.5, i.6);
       inside = c.if-s-at.false;
       going = c.if-rest-2.false;
@@ -232,86 +234,94 @@ message c =
 ahead : (c : goal.After-context-x) → c.loop-at.at ≤ (message c).at
 ahead c = omega (arith, c.loop-at-3.invariant.1, c.loop-at-2.invariant.1)
 
-pub loop-at-smaller-then-wrong-eq0 : goal.loop-at-smaller-then-wrong-eq0
-loop-at-smaller-then-wrong-eq0 c =
-    let m = (goal.at.loop-at-smaller-then-wrong-eq0 c).After-context-x in
+pub loop-at-smaller-in-Ok-sound_turn : goal.loop-at-smaller-in-Ok-sound_turn
+loop-at-smaller-in-Ok-sound_turn c =
+    let m = (goal.at.loop-at-smaller-in-Ok-sound_turn c).After-context-x in
     let p = message m in
-    let t = c.sound_turn-t in
-    let s = sound-step p t.result.heard t.result.cursor (sym c.in-6.is) t.ensures.cursor_value c.if-wrong-eq0.true t.new.body t.result.size t.result.kept t.ensures.bytes in
-    turn-less p _ t.result.cursor.at _ _ _ s c.loop-at.at (ahead m)
+    let t = c.in-Ok-sound_turn in
+    let w = t.t.scratch in
+    let s = sound-step p (sym c.in-6.is) t.t.heard t.to t.ensures.value c.sound_turn.new.body w.size w.kept t.ensures.bytes in
+    turn-less p _ t.to _ _ _ s c.loop-at.at (ahead m)
 
-pub loop-at-preserved-then-wrong-eq0 : goal.loop-at-preserved-then-wrong-eq0
-loop-at-preserved-then-wrong-eq0 c =
-    let m = (goal.at.loop-at-preserved-then-wrong-eq0 c).After-context-x in
+pub loop-at-preserved-in-Ok-sound_turn : goal.loop-at-preserved-in-Ok-sound_turn
+loop-at-preserved-in-Ok-sound_turn c =
+    let m = (goal.at.loop-at-preserved-in-Ok-sound_turn c).After-context-x in
     let p = message m in
-    let t = c.sound_turn-t in
-    let s = sound-step p t.result.heard t.result.cursor (sym c.in-6.is) t.ensures.cursor_value c.if-wrong-eq0.true t.new.body t.result.size t.result.kept t.ensures.bytes in
-    turned-still p _ t.result.cursor.at _ _ _ s
+    let t = c.in-Ok-sound_turn in
+    let w = t.t.scratch in
+    let s = sound-step p (sym c.in-6.is) t.t.heard t.to t.ensures.value c.sound_turn.new.body w.size w.kept t.ensures.bytes in
+    turned-still p _ t.to _ _ _ s
 
-pub loop-at-smaller-then-wrong-eq0-2 : goal.loop-at-smaller-then-wrong-eq0-2
-loop-at-smaller-then-wrong-eq0-2 c =
-    let m = (goal.at.loop-at-smaller-then-wrong-eq0-2 c).After-context-x in
+pub loop-at-smaller-in-Ok-time_at : goal.loop-at-smaller-in-Ok-time_at
+loop-at-smaller-in-Ok-time_at c =
+    let m = (goal.at.loop-at-smaller-in-Ok-time_at c).After-context-x in
     let p = message m in
-    let t = c.time_at-t in
-    let mv = time-read p t.result.value t.result.cursor (sym c.in-7.is) _ (c.context-x.ensures _) t.ensures c.if-wrong-eq0-2.true c.with_time-rest.result c.with_time-rest.ensures in
-    unmarked-less p p.baselines p.records c.with_time-rest.result t.result.cursor.at mv c.loop-at.at (ahead m)
+    let t = c.in-Ok-time_at in
+    let y = c.with_time-rest in
+    let mv = time-read p (sym c.in-7.is) _ (c.context-x.ensures _) t.bits t.to t.ensures y.result y.ensures in
+    unmarked-less p p.baselines p.records y.result t.to mv c.loop-at.at (ahead m)
 
-pub loop-at-preserved-then-wrong-eq0-2 : goal.loop-at-preserved-then-wrong-eq0-2
-loop-at-preserved-then-wrong-eq0-2 c =
-    let m = (goal.at.loop-at-preserved-then-wrong-eq0-2 c).After-context-x in
+pub loop-at-preserved-in-Ok-time_at : goal.loop-at-preserved-in-Ok-time_at
+loop-at-preserved-in-Ok-time_at c =
+    let m = (goal.at.loop-at-preserved-in-Ok-time_at c).After-context-x in
     let p = message m in
-    let t = c.time_at-t in
-    let mv = time-read p t.result.value t.result.cursor (sym c.in-7.is) _ (c.context-x.ensures _) t.ensures c.if-wrong-eq0-2.true c.with_time-rest.result c.with_time-rest.ensures in
-    unmarked p p.baselines p.records c.with_time-rest.result t.result.cursor.at mv
+    let t = c.in-Ok-time_at in
+    let y = c.with_time-rest in
+    let mv = time-read p (sym c.in-7.is) _ (c.context-x.ensures _) t.bits t.to t.ensures y.result y.ensures in
+    unmarked p p.baselines p.records y.result t.to mv
 
-pub loop-at-smaller-then-wrong-eq0-3 : goal.loop-at-smaller-then-wrong-eq0-3
-loop-at-smaller-then-wrong-eq0-3 c =
-    let m = (goal.at.loop-at-smaller-then-wrong-eq0-3 c).After-context-x in
+pub loop-at-smaller-in-Ok-client_turn : goal.loop-at-smaller-in-Ok-client_turn
+loop-at-smaller-in-Ok-client_turn c =
+    let m = (goal.at.loop-at-smaller-in-Ok-client_turn c).After-context-x in
     let p = message m in
-    let t = c.client_turn-t in
-    let s = client-step p t.result.client t.result.cursor (sym c.in-15.is) t.ensures.cursor_value t.result.anew t.ensures.kept c.if-wrong-eq0-3.true
-    c.with_client-rest.result c.with_client-rest.ensures t.new.body t.result.size t.result.kept t.ensures.bytes in
-    turn-less p _ t.result.cursor.at _ _ _ s c.loop-at.at (ahead m)
+    let t = c.in-Ok-client_turn in
+    let y = c.with_client-rest in
+    let w = t.t.scratch in
+    let s = client-step p (sym c.in-15.is) t.t.client t.to t.ensures.value t.t.anew t.ensures.kept y.result y.ensures
+    c.client_turn.new.body w.size w.kept t.ensures.bytes in
+    turn-less p _ t.to _ _ _ s c.loop-at.at (ahead m)
 
-pub loop-at-preserved-then-wrong-eq0-3 : goal.loop-at-preserved-then-wrong-eq0-3
-loop-at-preserved-then-wrong-eq0-3 c =
-    let m = (goal.at.loop-at-preserved-then-wrong-eq0-3 c).After-context-x in
+pub loop-at-preserved-in-Ok-client_turn : goal.loop-at-preserved-in-Ok-client_turn
+loop-at-preserved-in-Ok-client_turn c =
+    let m = (goal.at.loop-at-preserved-in-Ok-client_turn c).After-context-x in
     let p = message m in
-    let t = c.client_turn-t in
-    let s = client-step p t.result.client t.result.cursor (sym c.in-15.is) t.ensures.cursor_value t.result.anew t.ensures.kept c.if-wrong-eq0-3.true
-    c.with_client-rest.result c.with_client-rest.ensures t.new.body t.result.size t.result.kept t.ensures.bytes in
-    turned-still p _ t.result.cursor.at _ _ _ s
+    let t = c.in-Ok-client_turn in
+    let y = c.with_client-rest in
+    let w = t.t.scratch in
+    let s = client-step p (sym c.in-15.is) t.t.client t.to t.ensures.value t.t.anew t.ensures.kept y.result y.ensures
+    c.client_turn.new.body w.size w.kept t.ensures.bytes in
+    turned-still p _ t.to _ _ _ s
 
-pub loop-at-smaller-then-wrong-eq0-4 : goal.loop-at-smaller-then-wrong-eq0-4
-loop-at-smaller-then-wrong-eq0-4 c =
-    let m = (goal.at.loop-at-smaller-then-wrong-eq0-4 c).After-context-x in
+pub loop-at-smaller-in-Ok-pass_message : goal.loop-at-smaller-in-Ok-pass_message
+loop-at-smaller-in-Ok-pass_message c =
+    let m = (goal.at.loop-at-smaller-in-Ok-pass_message c).After-context-x in
     let p = message m in
-    let t = c.pass_message-next in
-    let s = pass-step p (sym c.is_passed.ensures ∙ c.if-is_passed.true) t.result _ (c.context-x.ensures _) t.ensures c.if-wrong-eq0-4.true in
-    turn-less p _ t.result.at _ _ _ s c.loop-at.at (ahead m)
+    let t = c.in-Ok-pass_message in
+    let s = pass-step p (sym c.is_passed.ensures ∙ c.if-is_passed.true) _ (c.context-x.ensures _) t.to t.ensures in
+    turn-less p _ t.to _ _ _ s c.loop-at.at (ahead m)
 
-pub loop-at-preserved-then-wrong-eq0-4 : goal.loop-at-preserved-then-wrong-eq0-4
-loop-at-preserved-then-wrong-eq0-4 c =
-    let m = (goal.at.loop-at-preserved-then-wrong-eq0-4 c).After-context-x in
+pub loop-at-preserved-in-Ok-pass_message : goal.loop-at-preserved-in-Ok-pass_message
+loop-at-preserved-in-Ok-pass_message c =
+    let m = (goal.at.loop-at-preserved-in-Ok-pass_message c).After-context-x in
     let p = message m in
-    let t = c.pass_message-next in
-    let s = pass-step p (sym c.is_passed.ensures ∙ c.if-is_passed.true) t.result _ (c.context-x.ensures _) t.ensures c.if-wrong-eq0-4.true in
-    turned-still p _ t.result.at _ _ _ s
+    let t = c.in-Ok-pass_message in
+    let s = pass-step p (sym c.is_passed.ensures ∙ c.if-is_passed.true) _ (c.context-x.ensures _) t.to t.ensures in
+    turned-still p _ t.to _ _ _ s
 
 pub bounds-baselines-i-in-Baseline : goal.bounds-baselines-i-in-Baseline
 bounds-baselines-i-in-Baseline c =
     let p = message (goal.at.bounds-baselines-i-in-Baseline c).After-context-x in
-    let r = c.read_message-m in
+    let t = c.in-Ok-read_message in
     let b = c.in-Baseline in
-    omega (arith, c.index_of-i.ensures, baseline-entity p r.result.message r.result.cursor _ (c.context-x.ensures _) r.ensures c.if-wrong-eq0-5.true b.entity b.look b.pose b.is)
+    omega (arith, c.index_of-i.ensures, baseline-entity p _ (c.context-x.ensures _) t.message t.to t.ensures b.entity b.look b.pose b.is)
 
 pub apply_rest-rest-requires : goal.apply_rest-rest-requires
 unfolding scene_with
 apply_rest-rest-requires c = let p = message (goal.at.apply_rest-rest-requires c).After-context-x in omega (arith, (range→ (scene p) p.reached.3).statics)
 
 -- The number of another message: none of a sound, a time or clientdata, and none of an update.
-other-number : (c : goal.In_default)
-    → let n = get_or (take (c.loop-blocks.start + 16 + c.read_head-h.result.size) c.args.d.now) c.loop-at-3.at 0 in
+other-number : (c : goal.In_default-k)
+    → let n = get_or (take (c.loop-blocks.start + 16 + c.in-Ok.h.size) c.args.d.now) c.loop-at-3.at 0 in
     (Kind.sound ≢ n) × (7 ≢ n) × (15 ≢ n) × (n < 128)
 other-number c = ((λ z. omega arith), (λ z. omega arith), (λ z. omega arith), omega arith)
 
@@ -319,224 +329,227 @@ pub loop-at-smaller-in-Baseline : goal.loop-at-smaller-in-Baseline
 loop-at-smaller-in-Baseline c =
     let m = (goal.at.loop-at-smaller-in-Baseline c).After-context-x in
     let p = message m in
-    let r = c.read_message-m in
-    let n = other-number (goal.at.loop-at-smaller-in-Baseline c).In_default in
+    let t = c.in-Ok-read_message in
+    let n = other-number (goal.at.loop-at-smaller-in-Baseline c).In_default-k in
     let b = c.in-Baseline in
-    let s = baseline-step p r.result.message r.result.cursor _ (c.context-x.ensures _) r.ensures c.if-wrong-eq0-5.true n.0 n.2 n.3 b.entity b.look b.pose b.is c.index_of-i.result c.index_of-i.ensures in
-    turn-less p _ r.result.cursor.at _ _ _ s c.loop-at.at (ahead m)
+    let i = c.index_of-i in
+    let s = baseline-step p _ (c.context-x.ensures _) t.message t.to t.ensures n.0 n.2 n.3 b.entity b.look b.pose b.is i.result i.ensures in
+    turn-less p _ t.to _ _ _ s c.loop-at.at (ahead m)
 
 pub loop-at-preserved-in-Baseline : goal.loop-at-preserved-in-Baseline
 loop-at-preserved-in-Baseline c =
     let m = (goal.at.loop-at-preserved-in-Baseline c).After-context-x in
     let p = message m in
-    let r = c.read_message-m in
-    let n = other-number (goal.at.loop-at-preserved-in-Baseline c).In_default in
+    let t = c.in-Ok-read_message in
+    let n = other-number (goal.at.loop-at-preserved-in-Baseline c).In_default-k in
     let b = c.in-Baseline in
-    let s = baseline-step p r.result.message r.result.cursor _ (c.context-x.ensures _) r.ensures c.if-wrong-eq0-5.true n.0 n.2 n.3 b.entity b.look b.pose b.is c.index_of-i.result c.index_of-i.ensures in
-    turned-still p _ r.result.cursor.at _ _ _ s
+    let i = c.index_of-i in
+    let s = baseline-step p _ (c.context-x.ensures _) t.message t.to t.ensures n.0 n.2 n.3 b.entity b.look b.pose b.is i.result i.ensures in
+    turned-still p _ t.to _ _ _ s
 
 pub loop-at-smaller-in-Serverinfo : goal.loop-at-smaller-in-Serverinfo
 loop-at-smaller-in-Serverinfo c =
     let m = (goal.at.loop-at-smaller-in-Serverinfo c).After-context-x in
     let p = message m in
-    let r = c.read_message-m in
-    let n = other-number (goal.at.loop-at-smaller-in-Serverinfo c).In_default in
-    let t = c.cleared_scene-clear.result in
-    let mv = serverinfo-read p r.result.message r.result.cursor _ (c.context-x.ensures _) r.ensures c.if-wrong-eq0-5.true n.0 n.2 n.3 c.in-Serverinfo.info c.in-Serverinfo.is t c.cleared_scene-clear.ensures in
-    unmarked-less p t.baselines t.records t.rest r.result.cursor.at mv c.loop-at.at (ahead m)
+    let t = c.in-Ok-read_message in
+    let n = other-number (goal.at.loop-at-smaller-in-Serverinfo c).In_default-k in
+    let i = c.in-Serverinfo in
+    let y = c.cleared_scene-clear in
+    let g = y.result in
+    let mv = serverinfo-read p _ (c.context-x.ensures _) t.message t.to t.ensures n.0 n.2 n.3 i.info i.is g y.ensures in
+    unmarked-less p g.baselines g.records g.rest t.to mv c.loop-at.at (ahead m)
 
 pub loop-at-preserved-in-Serverinfo : goal.loop-at-preserved-in-Serverinfo
 loop-at-preserved-in-Serverinfo c =
     let m = (goal.at.loop-at-preserved-in-Serverinfo c).After-context-x in
     let p = message m in
-    let r = c.read_message-m in
-    let n = other-number (goal.at.loop-at-preserved-in-Serverinfo c).In_default in
-    let t = c.cleared_scene-clear.result in
-    let mv = serverinfo-read p r.result.message r.result.cursor _ (c.context-x.ensures _) r.ensures c.if-wrong-eq0-5.true n.0 n.2 n.3 c.in-Serverinfo.info c.in-Serverinfo.is t c.cleared_scene-clear.ensures in
-    unmarked p t.baselines t.records t.rest r.result.cursor.at mv
+    let t = c.in-Ok-read_message in
+    let n = other-number (goal.at.loop-at-preserved-in-Serverinfo c).In_default-k in
+    let i = c.in-Serverinfo in
+    let y = c.cleared_scene-clear in
+    let g = y.result in
+    let mv = serverinfo-read p _ (c.context-x.ensures _) t.message t.to t.ensures n.0 n.2 n.3 i.info i.is g y.ensures in
+    unmarked p g.baselines g.records g.rest t.to mv
 
 pub loop-at-smaller-in_default-message : goal.loop-at-smaller-in_default-message
 loop-at-smaller-in_default-message c =
     let m = (goal.at.loop-at-smaller-in_default-message c).After-context-x in
     let p = message m in
-    let r = c.read_message-m in
-    let n = other-number (goal.at.loop-at-smaller-in_default-message c).In_default in
+    let t = c.in-Ok-read_message in
+    let n = other-number (goal.at.loop-at-smaller-in_default-message c).In_default-k in
     let d = c.in_default-message in
-    let s = rest-step p r.result.message r.result.cursor _ (c.context-x.ensures _) r.ensures c.if-wrong-eq0-5.true n.0 n.2 n.3 d.not-Serverinfo d.not-Baseline n.1
-    c.apply_rest-rest.result c.apply_rest-rest.ensures in
-    turn-less p _ r.result.cursor.at _ _ _ s c.loop-at.at (ahead m)
+    let y = c.apply_rest-rest in
+    let s = rest-step p _ (c.context-x.ensures _) t.message t.to t.ensures n.0 n.2 n.3 d.not-Serverinfo d.not-Baseline n.1 y.result y.ensures in
+    turn-less p _ t.to _ _ _ s c.loop-at.at (ahead m)
 
 pub loop-at-preserved-in_default-message : goal.loop-at-preserved-in_default-message
 loop-at-preserved-in_default-message c =
     let m = (goal.at.loop-at-preserved-in_default-message c).After-context-x in
     let p = message m in
-    let r = c.read_message-m in
-    let n = other-number (goal.at.loop-at-preserved-in_default-message c).In_default in
+    let t = c.in-Ok-read_message in
+    let n = other-number (goal.at.loop-at-preserved-in_default-message c).In_default-k in
     let d = c.in_default-message in
-    let s = rest-step p r.result.message r.result.cursor _ (c.context-x.ensures _) r.ensures c.if-wrong-eq0-5.true n.0 n.2 n.3 d.not-Serverinfo d.not-Baseline n.1
-    c.apply_rest-rest.result c.apply_rest-rest.ensures in
-    turned-still p _ r.result.cursor.at _ _ _ s
+    let y = c.apply_rest-rest in
+    let s = rest-step p _ (c.context-x.ensures _) t.message t.to t.ensures n.0 n.2 n.3 d.not-Serverinfo d.not-Baseline n.1 y.result y.ensures in
+    turned-still p _ t.to _ _ _ s
 
-pub loop-at-smaller-then-not-f : goal.loop-at-smaller-then-not-f
-loop-at-smaller-then-not-f c =
-    let m = (goal.at.loop-at-smaller-then-not-f c).After-context-x in
+pub loop-at-smaller-in-Some-update_fields-2 : goal.loop-at-smaller-in-Some-update_fields-2
+loop-at-smaller-in-Some-update_fields-2 c =
+    let m = (goal.at.loop-at-smaller-in-Some-update_fields-2 c).After-context-x in
     let p = message m in
-    let h = c.load_head-q-then-at-writes in
-    let f = c.update_fields-f-then-not-q in
-    let w = c.put_update_behind-w in
+    let h = c.in-Some-load_head-2 in
+    let f = c.in-Some-update_fields-2 in
+    let w = c.put_update_behind-scratch in
     let on = before_stop c.args.on (length c.args.d.now) (end (open_message m)) _ p.at c.loaded_until-writes.ensures c.if-at-writes.true in
-    let l : Loaded p h.result f.result = record { head = h.ensures (not-true _ c.if-not-q.true); fields = f.ensures (not-true _ c.if-not-f.true) } in
-    let s = again-step p h.result f.result l on.0 w.new.out w.result.size w.result.kept w.ensures in
-    turn-less p _ f.result.next _ _ _ s c.loop-at.at (ahead m)
+    let l : Loaded p h.q f.f = record { head = h.ensures; fields = f.ensures } in
+    let s = again-step p h.q f.f l on.0 w.new.out w.result.size w.result.kept w.ensures in
+    turn-less p _ f.f.next _ _ _ s c.loop-at.at (ahead m)
 
-pub loop-at-preserved-then-not-f : goal.loop-at-preserved-then-not-f
-loop-at-preserved-then-not-f c =
-    let m = (goal.at.loop-at-preserved-then-not-f c).After-context-x in
+pub loop-at-preserved-in-Some-update_fields-2 : goal.loop-at-preserved-in-Some-update_fields-2
+loop-at-preserved-in-Some-update_fields-2 c =
+    let m = (goal.at.loop-at-preserved-in-Some-update_fields-2 c).After-context-x in
     let p = message m in
-    let h = c.load_head-q-then-at-writes in
-    let f = c.update_fields-f-then-not-q in
-    let w = c.put_update_behind-w in
+    let h = c.in-Some-load_head-2 in
+    let f = c.in-Some-update_fields-2 in
+    let w = c.put_update_behind-scratch in
     let on = before_stop c.args.on (length c.args.d.now) (end (open_message m)) _ p.at c.loaded_until-writes.ensures c.if-at-writes.true in
-    let l : Loaded p h.result f.result = record { head = h.ensures (not-true _ c.if-not-q.true); fields = f.ensures (not-true _ c.if-not-f.true) } in
-    let s = again-step p h.result f.result l on.0 w.new.out w.result.size w.result.kept w.ensures in
-    turned p _ f.result.next _ _ _ s _ _ (loaded-later p h.result f.result l p.at (omega arith) (omega (arith, loaded-less p h.result f.result l)))
+    let l : Loaded p h.q f.f = record { head = h.ensures; fields = f.ensures } in
+    let s = again-step p h.q f.f l on.0 w.new.out w.result.size w.result.kept w.ensures in
+    turned p _ f.f.next _ _ _ s _ _ (loaded-later p h.q f.f l p.at (omega arith) (omega (arith, loaded-less p h.q f.f l)))
 
-pub bounds-baselines-i-then-wrong-eq0-6 : goal.bounds-baselines-i-then-wrong-eq0-6
-bounds-baselines-i-then-wrong-eq0-6 c =
-    let m = (goal.at.bounds-baselines-i-then-wrong-eq0-6 c).After-context-x in
+pub bounds-baselines-i-in-Ok-read_update : goal.bounds-baselines-i-in-Ok-read_update
+bounds-baselines-i-in-Ok-read_update c =
+    let m = (goal.at.bounds-baselines-i-in-Ok-read_update c).After-context-x in
     let p = message m in
-    let r = c.read_update-u in
+    let t = c.in-Ok-read_update in
     let large : 128 ≤ get_or (body (open_message m)) p.at 0 = omega arith in
-    omega (arith, c.index_of-i-then-wrong-eq0-6.ensures, sent-entity p large r.result.update r.result.cursor r.ensures c.if-wrong-eq0-6.true)
+    omega (arith, c.index_of-i-in-Ok-read_update.ensures, sent-entity p large t.update t.to t.ensures)
 
-pub bounds-records-i-then-wrong-eq0-6 : goal.bounds-records-i-then-wrong-eq0-6
-bounds-records-i-then-wrong-eq0-6 c =
-    let m = (goal.at.bounds-records-i-then-wrong-eq0-6 c).After-context-x in
+pub bounds-records-i-in-Ok-read_update : goal.bounds-records-i-in-Ok-read_update
+bounds-records-i-in-Ok-read_update c =
+    let m = (goal.at.bounds-records-i-in-Ok-read_update c).After-context-x in
     let p = message m in
-    let r = c.read_update-u in
+    let t = c.in-Ok-read_update in
     let large : 128 ≤ get_or (body (open_message m)) p.at 0 = omega arith in
-    omega (arith, c.index_of-i-then-wrong-eq0-6.ensures, sent-entity p large r.result.update r.result.cursor r.ensures c.if-wrong-eq0-6.true)
+    omega (arith, c.index_of-i-in-Ok-read_update.ensures, sent-entity p large t.update t.to t.ensures)
 
-pub bounds-marks-i-then-wrong-eq0-6 : goal.bounds-marks-i-then-wrong-eq0-6
-bounds-marks-i-then-wrong-eq0-6 c =
-    let m = (goal.at.bounds-marks-i-then-wrong-eq0-6 c).After-context-x in
+pub bounds-marks-i-in-Ok-read_update : goal.bounds-marks-i-in-Ok-read_update
+bounds-marks-i-in-Ok-read_update c =
+    let m = (goal.at.bounds-marks-i-in-Ok-read_update c).After-context-x in
     let p = message m in
-    let r = c.read_update-u in
+    let t = c.in-Ok-read_update in
     let large : 128 ≤ get_or (body (open_message m)) p.at 0 = omega arith in
-    omega (arith, c.index_of-i-then-wrong-eq0-6.ensures, sent-entity p large r.result.update r.result.cursor r.ensures c.if-wrong-eq0-6.true)
+    omega (arith, c.index_of-i-in-Ok-read_update.ensures, sent-entity p large t.update t.to t.ensures)
 
 pub loop-at-smaller : goal.loop-at-smaller
 loop-at-smaller c =
     let m = (goal.at.loop-at-smaller c).After-context-x in
     let p = message m in
-    let r = c.read_update-u in
-    let i = c.index_of-i-then-wrong-eq0-6 in
-    let t = c.update_turn-w in
+    let t = c.in-Ok-read_update in
+    let i = c.index_of-i-in-Ok-read_update in
+    let w = c.update_turn-w in
+    let k = w.result.scratch in
     let large : 128 ≤ get_or (body (open_message m)) p.at 0 = omega arith in
-    let s = sent-step p large r.result.update r.result.cursor r.ensures c.if-wrong-eq0-6.true i.result i.ensures t.result.record t.ensures.record_value
-    t.new.body t.result.size t.result.kept t.ensures.bytes in
-    turn-less p _ r.result.cursor.at _ _ _ s c.loop-at.at (ahead m)
+    let s = sent-step p large t.update t.to t.ensures i.result i.ensures w.result.record w.ensures.record_value w.new.body k.size k.kept w.ensures.bytes in
+    turn-less p _ t.to _ _ _ s c.loop-at.at (ahead m)
 
 pub loop-at-preserved : goal.loop-at-preserved
 loop-at-preserved c =
     let m = (goal.at.loop-at-preserved c).After-context-x in
     let p = message m in
-    let r = c.read_update-u in
-    let i = c.index_of-i-then-wrong-eq0-6 in
-    let t = c.update_turn-w in
+    let t = c.in-Ok-read_update in
+    let i = c.index_of-i-in-Ok-read_update in
+    let w = c.update_turn-w in
+    let k = w.result.scratch in
     let large : 128 ≤ get_or (body (open_message m)) p.at 0 = omega arith in
-    let s = sent-step p large r.result.update r.result.cursor r.ensures c.if-wrong-eq0-6.true i.result i.ensures t.result.record t.ensures.record_value
-    t.new.body t.result.size t.result.kept t.ensures.bytes in
-    turned p _ r.result.cursor.at _ _ _ s _ _
-    (sent-later p large r.result.update r.result.cursor r.ensures c.if-wrong-eq0-6.true i.result i.ensures t.result.record t.ensures.record_value)
+    let s = sent-step p large t.update t.to t.ensures i.result i.ensures w.result.record w.ensures.record_value w.new.body k.size k.kept w.ensures.bytes in
+    turned p _ t.to _ _ _ s _ _ (sent-later p large t.update t.to t.ensures i.result i.ensures w.result.record w.ensures.record_value)
 
 pub returns-in-loop-at : goal.returns-in-loop-at
 returns-in-loop-at c =
     let m = (goal.at.returns-in-loop-at c).After-context-x in
+    let o = open_message m in
     let p = message m in
     let x = c.context-x.ensures _ in
-    let z : Refuses (open_message m) c.match-k.wrong p.at c.refused_in-in-loop-at.result = (c.refused_in-in-loop-at.ensures.read_value, c.refused_in-in-loop-at.ensures.bytes) in
+    let r = c.match-k.r in
+    let a = c.refused_in-in-loop-at.result in
+    let z : Refuses o (number_of r.refusal) p.at a = (c.refused_in-in-loop-at.ensures.read_value, c.refused_in-in-loop-at.ensures.bytes) in
+    -- By the refusal that one of the readers answered.
+    let wrong : (e : Refused) → r ≡ e → refused (number_of e.refusal) (drop e.place (body o)) ≡ parse (layout_in (scene p)) (drop p.at (body o)) → Answered o a =
+    λ e same q.
+    refuse-parsed p (number_of e.refusal) _ q a (subst (λ (e : Refused). Refuses o (number_of e.refusal) p.at a) same z) in
     elim c.match-k.branch [
-      | in-6+else-wrong-eq0 w ↦
-          let t = w.sound_turn-t in
-          refuse-parsed p _ t.result.cursor (sound-parsed p t.result.heard t.result.cursor (sym w.in-6.is) t.ensures.cursor_value) w.if-wrong-eq0.false _ w.wrong-is _ z
-      | in-7+else-wrong-eq0-2 w ↦
-          let t = w.time_at-t in
-          refuse-parsed p _ t.result.cursor (time-parsed p t.result.value t.result.cursor (sym w.in-7.is) _ x t.ensures) w.if-wrong-eq0-2.false _ w.wrong-is _ z
-      | in-15+else-wrong-eq0-3 w ↦
-          let t = w.client_turn-t in
-          refuse-parsed p _ t.result.cursor (client-parsed p t.result.client t.result.cursor (sym w.in-15.is) t.ensures.cursor_value) w.if-wrong-eq0-3.false _ w.wrong-is _ z
-      | in_default+then-is_passed+else-wrong-eq0-4 w ↦
-          let t = w.pass_message-next in
-          refuse-parsed p _ t.result (pass-parsed p (sym w.is_passed.ensures ∙ w.if-is_passed.true) t.result _ x t.ensures) w.if-wrong-eq0-4.false _ w.wrong-is _ z
-      | in_default+else-is_passed+else-wrong-eq0-5 w ↦
-          let t = w.read_message-m in
-          refuse-parsed p _ t.result.cursor (other-read p t.result.message t.result.cursor _ x t.ensures) w.if-wrong-eq0-5.false _ w.wrong-is _ z
-      | in-128-to-255+else-wrong-eq0-6 w ↦
-          let t = w.read_update-u in
-          let large : 128 ≤ get_or (body (open_message m)) p.at 0 = omega arith in
-          refuse-parsed p _ t.result.cursor (sent-read p large t.result.update t.result.cursor t.ensures) w.if-wrong-eq0-6.false _ w.wrong-is _ z
+      | in-6+in-Err-sound_turn w ↦ wrong _ w.r-is (w.in-Err-sound_turn.ensures.value (context_of (scene p)) ∙ sound-parsed p (sym w.in-6.is))
+      | in-7+in-Err-time_at w ↦ wrong _ w.r-is (w.in-Err-time_at.ensures ∙ time-parsed p (sym w.in-7.is) _ x)
+      | in-15+in-Err-client_turn w ↦ wrong _ w.r-is (client-wrong p (sym w.in-15.is) _ _ w.in-Err-client_turn.ensures.value)
+      | in_default-k+then-is_passed+in-Err-pass_message w ↦
+          wrong _ w.r-is (pass-wrong p (sym w.is_passed.ensures ∙ w.if-is_passed.true) _ x _ _ w.in-Err-pass_message.ensures)
+      | in_default-k+else-is_passed+in-Err-read_message w ↦ wrong _ w.r-is (w.in-Err-read_message.ensures ∙ other-read p _ x)
+      | in-128-to-255+in-Err-read_update w ↦
+          let large : 128 ≤ get_or (body o) p.at 0 = omega arith in wrong _ w.r-is (w.in-Err-read_update.ensures ∙ sent-read p large)
     ]
 
 -- ---- where a block is at its end
 
-abbrev open_ending : goal.After-end_block-e → Opened
-open_ending c = open_block (at_block c.loop-blocks.invariant c.type_inv.d c.loop-blocks-test.true) c.read_head-h.result c.if-rest.false
-    c.read_head-h.ensures.result_value c.if-refusal-ne0.false c.read_head-h.ensures.within
+abbrev open_ending : goal.After-end_block → Opened
+open_ending c = open_block (at_block c.loop-blocks.invariant c.type_inv.d c.loop-blocks-test.true) c.in-Ok.h c.if-rest.false
+    c.in-Ok.ensures.value c.in-Ok.ensures.within
 
-abbrev ending : (c : goal.After-end_block-e) → Ending (open_ending c)
+abbrev ending : (c : goal.After-end_block) → Ending (open_ending c)
 ending c =
     let k = c.loop-at in
-    let e = c.end_block-e in
     record {
       count = k.messages;
       state = held k.baselines k.records (marked k.since k.marks) k.rest;
       filled = k.body;
       at = k.at;
-      size = k.size;
-      kept = k.kept;
+      size = k.scratch.size;
+      kept = k.scratch.kept;
       marks = k.marks;
       since = k.since;
       reached = k.invariant;
       over = c.loop-at-test.false;
-      long = e.result.size;
-      short = e.result.short;
-      room = e.new.out;
-      sized = e.ensures.size_value;
-      tested = e.ensures.room;
-      holds = e.ensures.bytes;
     }
 
-pub returns-then-e : goal.returns-then-e
-returns-then-e c =
-    short-refused (ending (goal.at.returns-then-e c).After-end_block-e) c.if-e.true
-    c.refused_in-then-e.result (c.refused_in-then-e.ensures.read_value, c.refused_in-then-e.ensures.bytes)
+pub returns-in-Err-end_block : goal.returns-in-Err-end_block
+returns-in-Err-end_block c =
+    let e = ending (goal.at.returns-in-Err-end_block c).After-end_block in
+    let r = c.in-Err-end_block.r in
+    let s = c.in-Err-end_block.ensures.short in
+    let f = c.refused_in-in-Err-end_block in
+    short-refused e r.place (ap (λ (r : Refused). r.place) s.0) s.1 c.end_block.new.out s.2 f.result (
+      f.ensures.read_value ∙ ap (λ (r' : Refused). refused_in (scene_of c.args.given) c.loop-blocks.blocks c.loop-blocks.start (number_of r'.refusal) r.place) s.0,
+      f.ensures.bytes,
+    )
 
 pub loop-blocks-preserved : goal.loop-blocks-preserved
 loop-blocks-preserved c =
-    let m = (goal.at.loop-blocks-preserved c).After-end_block-e in
+    let m = (goal.at.loop-blocks-preserved c).After-end_block in
     let o = open_ending m in
     let k = c.loop-at in
     let i = k.invariant in
+    let n = c.in-Ok-end_block.n in
+    let p = c.in-Ok-end_block.ensures.put in
     record {
-      good = o.good;
+      good = o.block.kept.good;
       inside = o.within;
       few = omega (arith, i.0);
       below = omega (arith, o.block.more);
       ranged = i.3;
-      fits = omega (arith, enough (ending m) c.if-e.false, o.block.kept.fits);
-      room_long = room-long (ending m);
-      body_long = c.end_block-e.ensures.long ∙ i.2;
+      fits = omega (arith, p.1, o.block.kept.fits);
+      room_long = room-long (ending m) n p.0 p.1 c.end_block.new.out p.2;
+      body_long = c.end_block.ensures.long ∙ i.2;
       marks_within = within_more k.marks (length (body o)) (end o + 1) i.6.marks_inside (omega (arith, body-long o));
       time_before = omega (arith, i.6.time_inside, body-long o);
-      told = goes_on (ending m) c.if-e.false;
+      told = goes_on (ending m) n p.0 p.1 c.end_block.new.out p.2;
     }
 
 -- What is told where the loop over blocks is left: no block is to be read, or the one that is there is refused.
 left-loop : (c : goal.Left-loop-blocks)
     → let k = c.loop-blocks in
     let a = c.args in
-    record { told = record { scene = held k.baselines k.records (marked k.since k.marks) k.rest; blocks = k.blocks; messages = k.messages; next = k.start; refusal = c.loop-blocks-test.refusal; place = k.start }; written = k.written; room = k.out }
+    let r = c.loop-blocks-test.refused in
+    record { told = record { scene = held k.baselines k.records (marked k.since k.marks) k.rest; blocks = k.blocks; messages = k.messages; next = k.start; refusal = refusal_in r; place = place_in k.start r }; written = k.written; room = k.out }
     ≡ wrote_of (scene_of a.given) (length a.d.now) (stored a.out.now a.base a.room) a.base 0 0 0 a.out.now (run_of a.on a.most a.room (scene_of a.given) (drop a.from a.d.now))
 unfolding scene_with
 left-loop c =
@@ -545,25 +558,29 @@ left-loop c =
     let d = a.d.now in
     let t = held k.baselines k.records (marked k.since k.marks) k.rest in
     let s = stored a.out.now a.base a.room in
-    let tells : ℕ → Wrote = λ n. record { told = record { scene = t; blocks = k.blocks; messages = k.messages; next = k.start; refusal = n; place = k.start }; written = k.written; room = k.out } in
+    let tells : ℕ → ℕ → Wrote = λ n p. record { told = record { scene = t; blocks = k.blocks; messages = k.messages; next = k.start; refusal = n; place = p }; written = k.written; room = k.out } in
+    let told : Option Refused → Wrote = λ r. tells (refusal_in r) (place_in k.start r) in
     elim c.loop-blocks-test.branch [
       | else-loop-blocks-test w ↦
-          ap tells (w.refusal-is ∙ k.invariant.good)
+          ap told (w.refused-is ∙ k.invariant.good)
           ∙ sym (k.invariant.told
           ∙ run_over (scene_of a.given) d a.on s a.room a.base k.blocks k.messages k.written k.out t k.start a.most k.blocks k.invariant.inside w.loop-blocks-test.false)
       | then-loop-blocks-test+then-rest w ↦
           let b = at_block k.invariant c.type_inv.d w.loop-blocks-test.true in
-          ap tells w.refusal-is ∙ stop-block b 11 (block-ended (before b) (drop k.start d) w.if-rest.true)
-      | then-loop-blocks-test+else-rest+then-refusal-ne0 w ↦
+          ap told w.refused-is ∙ stop-block b 11 (block-ended (before b) (drop k.start d) w.if-rest.true)
+      | then-loop-blocks-test+else-rest+in-Err w ↦
           let b = at_block k.invariant c.type_inv.d w.loop-blocks-test.true in
-          let h = w.read_head-h in
-          ap tells w.refusal-is ∙ stop-block b h.result.refusal (head-refused d k.start h.result h.ensures.result_value (before b) w.if-rest.false w.if-refusal-ne0.true)
+          let r = w.in-Err.r in
+          let h = w.in-Err.ensures.value in
+          ap told w.refused-is ∙ ap (tells (number_of r.refusal)) (head-place d k.start r h b.more.1)
+          ∙ stop-block b (number_of r.refusal) (head-refused d k.start r h (before b) w.if-rest.false)
     ]
 
 pub returns : goal.returns
 returns c =
     let k = c.loop-blocks in
+    let r = c.loop-blocks-test.refused in
     (λ i. record { told = c.answer.ensures.read_value i; written = c.answer.ensures.bytes i; room = k.out })
-    ∙ ap₂ (λ (p : List Bool) (n : ℕ). record { told = record { scene = scene_with (record { baselines = map baseline_numbers k.baselines; records = map record_numbers k.records; present = p; present_count = n }) k.rest; blocks = k.blocks; messages = k.messages; next = k.start; refusal = c.loop-blocks-test.refusal; place = k.start }; written = k.written; room = k.out })
+    ∙ ap₂ (λ (p : List Bool) (n : ℕ). record { told = record { scene = scene_with (record { baselines = map baseline_numbers k.baselines; records = map record_numbers k.records; present = p; present_count = n }) k.rest; blocks = k.blocks; messages = k.messages; next = k.start; refusal = refusal_in r; place = place_in k.start r }; written = k.written; room = k.out })
     c.present_of.ensures.set_value c.present_of.ensures.count
     ∙ left-loop (goal.at.returns c).Left-loop-blocks

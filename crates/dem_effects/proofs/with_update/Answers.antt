@@ -19,7 +19,7 @@ unfolding scene_with
 returns-then-i-lt-ENTITY_COUNT c h =
     let a = c.args in
     let s = scene_of a.s in
-    let b = c.baseline_of-b in
+    let b = c.baseline_of in
     let f = c.fill_update-record in
     let i = a.u.entity.0 in
     let e = c.index_of-i.ensures in
@@ -38,7 +38,7 @@ unfolding scene_with
 returns-else-i-lt-ENTITY_COUNT c h =
     let a = c.args in
     let s = scene_of a.s in
-    let b = c.baseline_of-b in
+    let b = c.baseline_of in
     let f = c.fill_update-record in
     let i = a.u.entity.0 in
     let marks = a.s.present in

@@ -1,55 +1,34 @@
--- `dem_framing::put_digits` meets its contract: each size of the number has its digits.
-use mathlib.Core.Path.{sym, ap}
-use Prim.Native.Nat.{◌+◌}
+-- `dem_framing::put_digits` meets its contract: the end of a line of three digits is the number's, and is stored.
+use mathlib.Core.Path.{ap, ◌∙◌}
+use mathlib.Core.List.{List}
+use Prim.Native.Nat.{ℕ, ◌+◌}
 use native.Mathlib.Omega.{arith}
-use lib.ListN.{length-set}
-use Rattle.dem_framing.proofs.NormalLaws.{one_size, one-put, two_size, two-put, three-size, three-put}
+use borrow.Rule.Slice.PartMut.{put_mid}
+use lib.ListN.{length}
+use Rattle.format.proofs.StoreLaws.{put_mid-sets}
+use Rattle.dem.specs.Track.{digits_of, digit_bytes}
+use Rattle.dem_framing.proofs.NormalLaws.{digits-most, digits_line}
 use Rattle.dem_framing.proofs.put_digits.Goals as goal
 
-pub bounds-room-at : goal.bounds-room-at
-bounds-room-at c = omega (arith, one_size c.args.v (omega arith))
+pub overflow_sub-line : goal.overflow_sub-line
+overflow_sub-line c = omega (arith, c.digit_count.ensures, digits-most c.args.v)
 
-pub bounds-room-at-then-v-lt10 : goal.bounds-room-at-then-v-lt10
-bounds-room-at-then-v-lt10 c = simp length-set (omega (arith, one_size c.args.v (omega arith)))
+pub slice_bounds-copy_from_slice-end : goal.slice_bounds-copy_from_slice-end
+slice_bounds-copy_from_slice-end c =
+    let e = digits_line c.args.v c.requires.0 c.digit_count.result _ _ _
+    c.digit_count.ensures c.digit.ensures c.digit-2.ensures c.digit-3.ensures in
+    omega (arith, c.requires.1, ap length e)
 
-pub returns-then-v-lt10 : goal.returns-then-v-lt10
-returns-then-v-lt10 c =
-    let a = c.args in record {
-      put = one-put a.v (omega arith) a.room.now a.at _ c.digit.ensures;
-      next = ap (◌+◌ a.at) (sym (one_size a.v (omega arith)));
-    }
+pub returns-clause-put : goal.returns-clause-put
+returns-clause-put c =
+    let a = c.args in
+    let e = digits_line c.args.v c.requires.0 c.digit_count.result _ _ _
+    c.digit_count.ensures c.digit.ensures c.digit-2.ensures c.digit-3.ensures in
+    ap (put_mid a.at _ a.room.now) (c.copy_from_slice.ensures.after ∙ e)
+    ∙ put_mid-sets a.room.now (digit_bytes (digits_of a.v)) a.at _ (omega (arith, ap length e)) c.requires.1
 
-pub bounds-room-at-then-v-lt100 : goal.bounds-room-at-then-v-lt100
-bounds-room-at-then-v-lt100 c = omega (arith, two_size c.args.v (omega arith) (omega arith))
-
-pub bounds-room-at-then-v-lt100-2 : goal.bounds-room-at-then-v-lt100-2
-bounds-room-at-then-v-lt100-2 c = simp length-set (omega (arith, two_size c.args.v (omega arith) (omega arith)))
-
-pub bounds-room-at-then-v-lt100-3 : goal.bounds-room-at-then-v-lt100-3
-bounds-room-at-then-v-lt100-3 c = simp length-set (omega (arith, two_size c.args.v (omega arith) (omega arith)))
-
-pub returns-then-v-lt100 : goal.returns-then-v-lt100
-returns-then-v-lt100 c =
-    let a = c.args in record {
-      put = two-put a.v (omega arith) (omega arith) a.room.now a.at _ _ c.digit-then-v-lt100.ensures c.digit-then-v-lt100-2.ensures;
-      next = ap (◌+◌ a.at) (sym (two_size a.v (omega arith) (omega arith)));
-    }
-
-pub bounds-room-at-2 : goal.bounds-room-at-2
-bounds-room-at-2 c = omega (arith, three-size c.args.v (omega arith))
-
-pub bounds-room-at-3 : goal.bounds-room-at-3
-bounds-room-at-3 c = simp length-set (omega (arith, three-size c.args.v (omega arith)))
-
-pub bounds-room-at-4 : goal.bounds-room-at-4
-bounds-room-at-4 c = simp length-set (omega (arith, three-size c.args.v (omega arith)))
-
-pub bounds-room-at-5 : goal.bounds-room-at-5
-bounds-room-at-5 c = simp length-set (omega (arith, three-size c.args.v (omega arith)))
-
-pub returns : goal.returns
-returns c =
-    let a = c.args in record {
-      put = three-put a.v (omega arith) a.room.now a.at _ _ _ c.digit-2.ensures c.digit-3.ensures c.digit-4.ensures;
-      next = ap (◌+◌ a.at) (sym (three-size a.v (omega arith)));
-    }
+pub returns-clause-next : goal.returns-clause-next
+returns-clause-next c =
+    let e = digits_line c.args.v c.requires.0 c.digit_count.result _ _ _
+    c.digit_count.ensures c.digit.ensures c.digit-2.ensures c.digit-3.ensures in
+    ap (λ (l : List ℕ). c.args.at + length l) e

@@ -3,7 +3,7 @@ use mathlib.Core.Path.{sym, ap, ◌∙◌}
 use mathlib.Core.Bool.{true, false}
 use native.Mathlib.Omega.{arith}
 use lib.ListN.{length, length-set}
-use lib.Seq.{sets, length-sets}
+use lib.Seq.{sets}
 use Rattle.dem.specs.Track.{normal_track, write_track}
 use Rattle.format.proofs.ListLaws.{sets_front}
 use Rattle.dem_framing.proofs.NormalLaws.{line, same_magnitude}
@@ -11,40 +11,36 @@ use Rattle.dem_framing.proofs.put_track.Goals as goal
 
 pub bounds-room-0 : goal.bounds-room-0
 bounds-room-0 c =
-    omega (arith, c.requires, ap length (line _ true c.ranges.number _ c.magnitude-v.ensures c.if-number-lt0.true))
+    omega (arith, c.requires, ap length (line _ true c.ranges.number _ c.unsigned_abs-v.ensures.value c.if-number-lt0.true))
 
 pub put_digits-requires : goal.put_digits-requires
 put_digits-requires c =
-    let m = c.magnitude-v in
-    let e = ap length (line _ true c.ranges.number _ m.ensures c.if-number-lt0.true) in
-    (omega (arith, c.requires, same_magnitude _ _ c.ranges.number m.ensures), simp length-set (omega (arith, c.requires, e)))
-
-pub shape_of-room-then-number-lt0 : goal.shape_of-room-then-number-lt0
-shape_of-room-then-number-lt0 c =
-    ap length c.put_digits.ensures.put ∙ simp (length-sets, length-set)
+    let m = c.unsigned_abs-v in
+    let e = ap length (line _ true c.ranges.number _ m.ensures.value c.if-number-lt0.true) in
+    (omega (arith, c.requires, same_magnitude _ _ c.ranges.number m.ensures.value), simp length-set (omega (arith, c.requires, e)))
 
 pub returns-then-number-lt0 : goal.returns-then-number-lt0
 returns-then-number-lt0 c =
     let room = c.args.room.now in
-    let m = c.magnitude-v in
+    let m = c.unsigned_abs-v in
     let d = c.put_digits in
-    let e = line _ true c.ranges.number _ m.ensures c.if-number-lt0.true in record {
+    let e = line _ true c.ranges.number _ m.ensures.value c.if-number-lt0.true in record {
       put = d.ensures.put ∙ ap (sets room 0) (sym e) ∙ sets_front room (write_track (normal_track c.args.number)) c.requires.1;
       next = omega (arith, d.ensures.next, ap length e);
     }
 
 pub put_digits-requires-2 : goal.put_digits-requires-2
 put_digits-requires-2 c =
-    let m = c.magnitude-v in
-    let e = ap length (line _ false c.ranges.number _ m.ensures c.if-number-lt0.false) in
-    (omega (arith, c.requires, same_magnitude _ _ c.ranges.number m.ensures), omega (arith, c.requires, e))
+    let m = c.unsigned_abs-v in
+    let e = ap length (line _ false c.ranges.number _ m.ensures.value c.if-number-lt0.false) in
+    (omega (arith, c.requires, same_magnitude _ _ c.ranges.number m.ensures.value), omega (arith, c.requires, e))
 
 pub returns : goal.returns
 returns c =
     let room = c.args.room.now in
-    let m = c.magnitude-v in
+    let m = c.unsigned_abs-v in
     let d = c.put_digits-2 in
-    let e = line _ false c.ranges.number _ m.ensures c.if-number-lt0.false in record {
+    let e = line _ false c.ranges.number _ m.ensures.value c.if-number-lt0.false in record {
       put = d.ensures.put ∙ ap (sets room 0) (sym e) ∙ sets_front room (write_track (normal_track c.args.number)) c.requires.1;
       next = omega (arith, d.ensures.next, ap length e);
     }

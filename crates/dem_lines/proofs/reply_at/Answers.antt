@@ -18,5 +18,5 @@ returns c k brought lines e =
     let a = c.args in
     let bytes = bytes_of a.bytes.now (λ i. (c.type_inv.bytes i).fits) in
     let own : length a.scene.rest.players ≡ 16 = omega arith in
-    let read = c.read_message_at-found in
+    let read = c.read_message_at-read in
     told-lent (scene_of a.scene) a.bytes.now bytes a.at read.result read.ensures (length-map a.scene.rest.players line_of ∙ own) k brought c.with_lines.result c.with_lines.ensures lines (omega (arith, e))

@@ -1,24 +1,7 @@
 -- `dem_normal::put_block` meets its contract: the head and the body are set one after the other.
-use native.Mathlib.Omega.{arith}
 use lib.ListN.{take}
-use lib.Seq.{length-take-le}
 use Rattle.dem_normal.proofs.BlockBytes.{block_set}
 use Rattle.dem_normal.proofs.put_block.Goals as goal
-
-pub put_number-a-requires : goal.put_number-a-requires
-put_number-a-requires c = omega (arith, c.requires.0)
-
-pub put_number-b-requires : goal.put_number-b-requires
-put_number-b-requires c = omega (arith, c.requires.0, c.put_number-a.ensures.next)
-
-pub put_number-c-requires : goal.put_number-c-requires
-put_number-c-requires c = omega (arith, c.requires.0, c.put_number-a.ensures.next, c.put_number-b.ensures.next)
-
-pub put_number-d-requires : goal.put_number-d-requires
-put_number-d-requires c = omega (arith, c.requires.0, c.put_number-a.ensures.next, c.put_number-b.ensures.next, c.put_number-c.ensures.next)
-
-pub put_text-requires : goal.put_text-requires
-put_text-requires c = omega (arith, length-take-le c.args.size c.args.body.now c.requires.1, c.requires.0, c.put_number-a.ensures.next, c.put_number-b.ensures.next, c.put_number-c.ensures.next, c.put_number-d.ensures.next)
 
 pub returns : goal.returns
 returns c =

@@ -1,13 +1,8 @@
 -- `dem_normal::put_copy` meets its contract: the bytes put are those read.
 use Prim.Native.Nat.{◌-◌}
 use lib.ListN.{take, drop}
-use Rattle.dem_normal.proofs.PutLaws.{put_none, put_unsent, put-sent, put_to}
+use Rattle.dem_normal.proofs.PutLaws.{put-sent, put_to}
 use Rattle.dem_normal.proofs.put_copy.Goals as goal
-
-pub returns-then-not-on : goal.returns-then-not-on
-returns-then-not-on c =
-    let a = c.args in
-    put_unsent a.out.now a.out.now a.at _ a.on c.if-not-on.true (put_none a.out.now a.at)
 
 pub returns : goal.returns
 returns c =

@@ -7,16 +7,13 @@ use Rattle.dem_normal.proofs.PutLaws.{PutSlots, slot_then, slots_none}
 use Rattle.dem_normal.proofs.SoundBytes.{sound-put}
 use Rattle.dem_normal.proofs.put_sound.Goals as goal
 
-pub put_place-requires : goal.put_place-requires
-put_place-requires c = omega (arith, c.requires, c.put_byte_if-d.ensures.near, c.put_byte_if-d.ensures.put.1, c.put_byte_if-c.ensures.near, c.put_byte_if-c.ensures.put.1, c.put_byte_if-b.ensures.near, c.put_byte_if-b.ensures.put.1, c.put_byte_if-a.ensures.near, c.put_byte_if-a.ensures.put.1)
-
 pub returns : goal.returns
 returns c x =
     let a = c.args in
-    let r1 = c.put_byte_if-a in
-    let r2 = c.put_byte_if-b in
-    let r3 = c.put_byte_if-c in
-    let r4 = c.put_byte_if-d in
+    let r1 = c.put_if-a in
+    let r2 = c.put_if-b in
+    let r3 = c.put_changed-c in
+    let r4 = c.put_changed-d in
     let r5 = c.put_place in
     let slots : PutSlots r2.new.out r4.new.out r2.result r4.result sound_slots (number a.s.volume ∷ number a.s.attenuation ∷ []) =
     slot_then r3.new.out r3.result r3.ensures.put (slot_then r4.new.out r4.result r4.ensures.put slots_none) in

@@ -1,59 +1,59 @@
--- `dem_recordings::read_block_at` meets its contract: the tests in document 01's order, then a run of at most one block, and its head.
-use mathlib.Core.Path.{◌≡◌, refl, sym, ap, ◌∙◌}
+-- `dem_recordings::read_block_at` meets its contract: what is asked first, then a run of at most one block, and its head.
+use mathlib.Core.Path.{◌≡◌, refl, sym, ap, ◌∙◌, subst}
 use mathlib.Core.Bool.{true}
 use Prim.Native.Nat.{ℕ, ◌<◌, ◌≤◌}
 use native.Mathlib.Omega.{arith}
 use lib.ListN.{length}
+use Rattle.std.specs.Result.{IsOk}
 use Rattle.format.specs.Bytes.{Bytes}
 use Rattle.dem.specs.Scene.{in_range}
 use Rattle.dem.specs.Recording.{blocks}
 use Rattle.format.proofs.ByteLaws.{bytes_of}
-use Rattle.format.proofs.AnswerLaws.{item_wrong, item_end, item_past}
-use Rattle.dem_scene.proofs.Ranges.{range_answered}
+use Rattle.format.proofs.AnswerLaws.{item_end}
+use Rattle.dem_framing.specs.Heads.{head_of}
 use Rattle.dem_scene.specs.Views.{scene_of}
-use Rattle.dem_recordings.proofs.Recordings.{outlined, outline-refused, outline-found}
-use Rattle.dem_recordings.proofs.read_block_at.Goals.{Else-bytes-at, Else-not-in_range}
+use Rattle.dem_messages.proofs.Asked.{asked-ok}
+use Rattle.dem_recordings.proofs.Recordings.{outlined, outline-refused, head_read, outline-found}
+use Rattle.dem_recordings.proofs.read_block_at.Goals.{Else-at-bytes}
 use Rattle.dem_recordings.proofs.read_block_at.Goals as goal
-
-in-range' : (c : goal.Else-not-in_range) → in_range (scene_of c.args.scene) ≡ true
-in-range' c = range_answered c.args.scene c.in_range.result c.in_range.ensures.value ∙ c.if-not-in_range.false
 
 before_end : {m n : ℕ} → (m ≡ n → ⊥) → m ≤ n → m < n
 before_end {m} {n} p h = omega arith
 
-inside : (c : goal.Else-bytes-at) → c.args.at < length c.args.bytes.now
-inside c = before_end c.if-at-bytes.false c.if-bytes-at.false
+-- The scene is in range, and the place before the end.
+asked : (c : Else-at-bytes) → (in_range (scene_of c.args.scene) ≡ true) × (c.args.at < length c.args.bytes.now)
+asked c =
+    let a = asked-ok (in_range (scene_of c.args.scene)) c.args.bytes.now c.args.at c.in_default.ensures.value in
+    (a.0, before_end c.if-at-bytes.false a.1)
 
-bytes : (c : goal.Else-bytes-at) → Bytes c.args.bytes.now
+bytes : (c : Else-at-bytes) → Bytes c.args.bytes.now
 bytes c = bytes_of c.args.bytes.now (λ i. (c.type_inv.bytes i).fits)
-
-pub returns-then-not-in_range : goal.returns-then-not-in_range
-returns-then-not-in_range c =
-    let a = c.args in
-    sym (ap (outlined a.at) (item_wrong blocks (scene_of a.scene) a.bytes.now a.at (range_answered c.args.scene c.in_range.result c.in_range.ensures.value ∙ c.if-not-in_range.true)))
 
 pub returns-then-at-bytes : goal.returns-then-at-bytes
 returns-then-at-bytes c =
     let a = c.args in
-    sym (ap (outlined a.at) (item_end blocks (scene_of a.scene) a.bytes.now a.at (in-range' (goal.at.returns-then-at-bytes c).Else-not-in_range) c.if-at-bytes.true))
+    let k = asked-ok (in_range (scene_of a.scene)) a.bytes.now a.at c.in_default.ensures.value in
+    sym (ap (outlined a.at) (item_end blocks (scene_of a.scene) a.bytes.now a.at k.0 c.if-at-bytes.true))
 
-pub returns-then-bytes-at : goal.returns-then-bytes-at
-returns-then-bytes-at c =
+pub returns-in-Some : goal.returns-in-Some
+returns-in-Some c =
     let a = c.args in
-    sym (ap (outlined a.at) (item_past blocks (scene_of a.scene) a.bytes.now a.at (in-range' (goal.at.returns-then-bytes-at c).Else-not-in_range) c.if-bytes-at.true))
-
-pub read_blocks-b-requires : goal.read_blocks-b-requires
-read_blocks-b-requires c = (c.if-bytes-at.false, in-range' (goal.at.read_blocks-b-requires c).Else-not-in_range)
-
-pub returns-then-refusal-ne0 : goal.returns-then-refusal-ne0
-returns-then-refusal-ne0 c =
-    let a = c.args in
+    let e = (goal.at.returns-in-Some c).Else-at-bytes in
     let b = c.read_blocks-b in
-    sym (outline-refused (scene_of a.scene) a.bytes.now a.at (bytes (goal.at.returns-then-refusal-ne0 c).Else-bytes-at) (in-range' (goal.at.returns-then-refusal-ne0 c).Else-not-in_range) b.result (inside (goal.at.returns-then-refusal-ne0 c).Else-bytes-at) b.ensures c.if-refusal-ne0.true)
+    outline-refused (scene_of a.scene) a.bytes.now a.at (bytes e) (asked e).0 b.result (asked e).1 b.ensures c.in-Some.r c.in-Some.is
+
+pub unwrap-h-requires : goal.unwrap-h-requires
+unwrap-h-requires c =
+    let a = c.args in
+    let e = (goal.at.unwrap-h-requires c).Else-at-bytes in
+    let b = c.read_blocks-b in
+    let h = head_read (scene_of a.scene) a.bytes.now a.at (bytes e) (asked e).0 b.result (asked e).1 b.ensures c.read_head.result c.read_head.ensures.value c.in_default-refused.is in
+    subst IsOk (sym h.1) refl
 
 pub returns : goal.returns
 returns c =
     let a = c.args in
+    let e = (goal.at.returns c).Else-at-bytes in
     let b = c.read_blocks-b in
-    sym (outline-found (scene_of a.scene) a.bytes.now a.at (bytes (goal.at.returns c).Else-bytes-at) (in-range' (goal.at.returns c).Else-not-in_range) b.result (inside (goal.at.returns c).Else-bytes-at) b.ensures
-    c.read_head-h.result c.read_head-h.ensures.result_value c.if-refusal-ne0.false)
+    outline-found (scene_of a.scene) a.bytes.now a.at (bytes e) (asked e).0 b.result (asked e).1 b.ensures c.unwrap-h.result
+    (sym (ap (head_of a.bytes.now a.at) c.unwrap-h.ensures) ∙ c.read_head.ensures.value) c.in_default-refused.is

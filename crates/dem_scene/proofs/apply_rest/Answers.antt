@@ -1,31 +1,24 @@
--- `dem_scene::apply_rest` meets its contract: each arm by what it calls or stores, the last by the list of messages that change no rest.
+-- `dem_scene::apply_rest` meets its contract: each arm that calls by what it calls, the last by the list of messages that change no rest.
 use mathlib.Core.Path.{refl, ap, ◌∙◌}
 use mathlib.Core.List.{[], ◌∷◌}
+use native.Mathlib.Omega.{arith}
 use mir.Syntax.{w16, w32}
 use borrow.Enum.Refused.{opened}
 use Rattle.dem.specs.Kind
 use Rattle.format.specs.Layout.{number}
 use Rattle.dem.specs.Message.{apply, fill}
-use Rattle.wire.specs.Cursors.{placed}
+use Rattle.wire.specs.Reads.{placed}
 use Rattle.wire.proofs.SignedLaws.{same_bits}
 use Rattle.dem_scene.specs.Views.{no_tables, scene_with, with_tables}
 use Rattle.dem_scene.proofs.Applied.{after_match, after_call, quiet-after}
 use Rattle.dem_scene.proofs.apply_rest.Goals as goal
 
-pub returns-in-Disconnect : goal.returns-in-Disconnect
-unfolding scene_with apply fill
-returns-in-Disconnect c t n = after_match c.args.x t (placed c.args.text.now) _ _ c.in-Disconnect.is
-
 pub returns-in-Stat : goal.returns-in-Stat
 unfolding scene_with apply fill
 returns-in-Stat c t n =
-    let v = same_bits w32 c.in-Stat.v _ (record { sfits = c.in-Stat.known_told-1-own.given.1.0.1 }) refl in
+    let v = same_bits w32 c.in-Stat.v _ (record { sfits = omega arith }) refl in
     after_call c.args.x t (placed c.args.text.now) c.with_stat.result _ _ _ c.in-Stat.is (c.with_stat.ensures t)
     (λ i. number Kind.stat ∷ number c.in-Stat.i ∷ number (v i) ∷ [])
-
-pub returns-in-View : goal.returns-in-View
-unfolding scene_with apply fill
-returns-in-View c t n = after_match c.args.x t (placed c.args.text.now) _ _ c.in-View.is
 
 pub returns-in-Time : goal.returns-in-Time
 unfolding scene_with apply fill
@@ -42,7 +35,7 @@ returns-in-Serverinfo c t n =
 pub returns-in-Frags : goal.returns-in-Frags
 unfolding scene_with apply fill
 returns-in-Frags c t n =
-    let v = same_bits w16 c.in-Frags.v _ (record { sfits = c.in-Frags.known_told-in-Frags-1-own.given.1.0.1 }) refl in
+    let v = same_bits w16 c.in-Frags.v _ (record { sfits = omega arith }) refl in
     after_call c.args.x t (placed c.args.text.now) c.with_frags.result _ _ _ c.in-Frags.is (c.with_frags.ensures t)
     (λ i. number Kind.frags ∷ number c.in-Frags.p.0 ∷ number (v i) ∷ [])
 
@@ -56,14 +49,6 @@ pub returns-in-Colours : goal.returns-in-Colours
 unfolding scene_with apply fill
 returns-in-Colours c t n =
     after_call c.args.x t (placed c.args.text.now) c.with_colours.result _ _ _ c.in-Colours.is (c.with_colours.ensures t) refl
-
-pub returns-in-Static : goal.returns-in-Static
-unfolding scene_with apply fill
-returns-in-Static c t n = after_match c.args.x t (placed c.args.text.now) _ _ c.in-Static.is
-
-pub returns-in-Pause : goal.returns-in-Pause
-unfolding scene_with apply fill
-returns-in-Pause c t n = after_match c.args.x t (placed c.args.text.now) _ _ c.in-Pause.is
 
 pub returns-in-Killed : goal.returns-in-Killed
 unfolding scene_with apply fill

@@ -4,4 +4,4 @@ use Rattle.dem_scene.proofs.cleared_scene.Goals as goal
 
 pub returns : goal.returns
 unfolding scene_with
-returns c = c.cleared_rest-rest.ensures _
+returns c = c.cleared_rest.ensures _

@@ -1,12 +1,6 @@
-use mathlib.Core.Path.{◌≡◌}
-use Prim.Native.Nat.{◌-◌}
-use lib.ListN.{length}
-use Rattle.dem.specs.Limits.{entity_count}
+use Prim.Native.Nat.{◌≤◌}
 use Rattle.dem.proofs.CountLaws.{CountedTo}
 use Rattle.dem_scene.proofs.count_marks.Given as goal
 
-abbrev pub invariant-loop-i : goal.invariant-loop-i
-invariant-loop-i l = (length l.present ≡ entity_count) × CountedTo l.present l.i l.count
-
-abbrev pub decreases-loop-i : goal.decreases-loop-i
-decreases-loop-i l = entity_count - l.i
+abbrev pub invariant-loop-set : goal.invariant-loop-set
+invariant-loop-set l = record { counted : CountedTo l.present l.set-index l.count; few : l.count ≤ l.set-index }

@@ -1,5 +1,6 @@
--- `dem_scene::fill_pose` meets its contract, field by field; what owning the two poses tells is that each signed field fits its width.
+-- `dem_scene::fill_pose` meets its contract, field by field.
 use mathlib.Core.List.{[], ◌∷◌}
+use native.Mathlib.Omega.{arith}
 use mir.Syntax.{w8, w16}
 use Rattle.format.specs.Bytes.{bit}
 use Rattle.dem_scene.proofs.Filling.{signed_picked}
@@ -7,21 +8,13 @@ use Rattle.dem_scene.proofs.fill_pose.Goals as goal
 
 pub returns : goal.returns
 returns c =
-    let a = c.args in
-    let s = a.sent in
-    let o = a.b.pose in
-    let fs = c.struct_told-11-1.given in
-    let fo = c.struct_told-12-1.given in
-    let x = c.pick_short-x in
-    let angle0 = c.pick_char-angle0 in
-    let y = c.pick_short-y in
-    let angle1 = c.pick_char-angle1 in
-    let z = c.pick_short-z in
-    let angle2 = c.pick_char-angle2 in
-    let ex = signed_picked w16 (bit a.mask 1) x.result s.x o.x x.type_inv fs.0.1 fo.0.1 x.ensures in
-    let eangle0 = signed_picked w8 (bit a.mask 8) angle0.result s.angle0 o.angle0 angle0.type_inv fs.1.0.1 fo.1.0.1 angle0.ensures in
-    let ey = signed_picked w16 (bit a.mask 2) y.result s.y o.y y.type_inv fs.1.1.0.1 fo.1.1.0.1 y.ensures in
-    let eangle1 = signed_picked w8 (bit a.mask 4) angle1.result s.angle1 o.angle1 angle1.type_inv fs.1.1.1.0.1 fo.1.1.1.0.1 angle1.ensures in
-    let ez = signed_picked w16 (bit a.mask 3) z.result s.z o.z z.type_inv fs.1.1.1.1.0.1 fo.1.1.1.1.0.1 z.ensures in
-    let eangle2 = signed_picked w8 (bit a.mask 9) angle2.result s.angle2 o.angle2 angle2.type_inv fs.1.1.1.1.1.0.1 fo.1.1.1.1.1.0.1 angle2.ensures in
-    λ i. ex i ∷ eangle0 i ∷ ey i ∷ eangle1 i ∷ ez i ∷ eangle2 i ∷ []
+    let m = c.args.mask in
+    let s = c.args.sent in
+    let o = c.args.b.pose in
+    let e0 = signed_picked w16 (bit m 1) c.pick.result s.x o.x c.pick.type_inv (omega arith) (omega arith) c.pick.ensures in
+    let e1 = signed_picked w8 (bit m 8) c.pick-2.result s.angle0 o.angle0 c.pick-2.type_inv (omega arith) (omega arith) c.pick-2.ensures in
+    let e2 = signed_picked w16 (bit m 2) c.pick-3.result s.y o.y c.pick-3.type_inv (omega arith) (omega arith) c.pick-3.ensures in
+    let e3 = signed_picked w8 (bit m 4) c.pick-4.result s.angle1 o.angle1 c.pick-4.type_inv (omega arith) (omega arith) c.pick-4.ensures in
+    let e4 = signed_picked w16 (bit m 3) c.pick-5.result s.z o.z c.pick-5.type_inv (omega arith) (omega arith) c.pick-5.ensures in
+    let e5 = signed_picked w8 (bit m 9) c.pick-6.result s.angle2 o.angle2 c.pick-6.type_inv (omega arith) (omega arith) c.pick-6.ensures in
+    λ i. e0 i ∷ e1 i ∷ e2 i ∷ e3 i ∷ e4 i ∷ e5 i ∷ []

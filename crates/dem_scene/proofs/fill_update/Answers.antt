@@ -1,8 +1,7 @@
 -- `dem_scene::fill_update` meets its contract: look, effects and pose are filled in by the mask that the two bytes make.
-use mathlib.Core.Path.{◌≡◌, ap, ap₂, ◌∙◌}
+use mathlib.Core.Path.{◌≡◌, ap, ◌∙◌}
 use mathlib.Core.List.{◌∷◌, ◌++◌}
 use Rattle.dem.specs.Kind
-use Prim.Native.Nat.{ℕ, ◌+◌, ◌*◌}
 use native.Mathlib.Omega.{arith}
 use Rattle.format.specs.Bytes.{bit, bit_of}
 use Rattle.format.specs.Masked.{Mask, fill_slots}
@@ -18,15 +17,13 @@ pub returns : goal.returns
 returns c =
     let u = c.args.u in
     let b = baseline_numbers c.args.b in
-    let high = c.widened in
-    let low = c.widened-2 in
-    let mask = high.result * 256 + low.result in
+    let mask = c.mask-mask.result in
     let vs = tail (tail (tail (update_values u))) in
-    let bit5 = c.has-bit5.ensures in
-    let look = c.fill_look-look.ensures in
-    let effects = picked (bit mask 13) _ u.effects 0 c.pick-effects.ensures in
-    let pose = c.fill_pose-pose.ensures in
+    let bit5 = c.has.ensures in
+    let look = c.fill_look.ensures in
+    let effects = picked (bit mask 13) _ u.effects 0 c.pick.ensures in
+    let pose = c.fill_pose.ensures in
     let same : bit mask ≡ update_mask u.number u.high =
-    ap bit (ap₂ (λ (x y : ℕ). x * 256 + y) high.ensures low.ensures) ∙ update_mask_lem u.high u.number (omega arith) in
+    ap bit c.mask-mask.ensures ∙ update_mask_lem u.high u.number (omega arith) in
     (λ i. number Kind.update ∷ number u.entity.0 ∷ number (bit_of (bit5 i)) ∷ (look i ++ (effects i ∷ pose i)))
     ∙ ap (λ (m : Mask). number Kind.update ∷ number u.entity.0 ∷ number (bit_of (m record_bit)) ∷ fill_slots (update_slots b) m vs) same

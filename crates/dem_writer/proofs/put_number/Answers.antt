@@ -1,27 +1,35 @@
--- `dem_writer::put_number` meets its contract: what is left of the number, put from the place reached on, makes the room that is asked for.
-use mathlib.Core.Path.{refl, sym, ◌∙◌}
-use Prim.Native.Nat.{◌+◌, ◌-◌, ◌%◌}
-use borrow.Author.Rules.{rules}
-use lib.ListN.{length-set}
-use Rattle.dem_writer.proofs.RoomLaws.{number-start, number_more, number_none}
+-- `dem_writer::put_number` meets its contract: the part of the room that it takes is the number's bytes, one more each time.
+use mathlib.Core.Path.{◌≡◌, ap, ◌∙◌}
+use mathlib.Core.List.{List}
+use Prim.Native.Nat.{ℕ, ◌+◌, ◌-◌, ◌≤◌}
+use native.Mathlib.Omega.{arith}
+use lib.ListN.{length, take, drop, length-take, length-drop}
+use borrow.Rule.Slice.PartMut.{put_mid}
+use Rattle.format.specs.Bytes.{le_write}
+use Rattle.format.proofs.ByteLaws.{le-length}
+use Rattle.format.proofs.StoreLaws.{put_mid-sets}
+use Rattle.dem_writer.proofs.RoomLaws.{number_step, number_whole}
 use Rattle.dem_writer.proofs.put_number.Goals as goal
 
-pub loop-k-init : goal.loop-k-init
-loop-k-init c = let a = c.args in (search rules, refl, number-start a.room.now a.at a.width a.value)
+-- How many bytes it takes.
+part-length : (room : List ℕ) (at width : ℕ) → at + width ≤ length room → length (take (at + width - at) (drop at room)) ≡ width
+part-length room at width h = omega (arith, length-take {A = ℕ}, length-drop {A = ℕ})
 
-pub loop-k-preserved : goal.loop-k-preserved
-loop-k-preserved c =
+pub loop-b-preserved : goal.loop-b-preserved
+loop-b-preserved c =
     let a = c.args in
-    let l = c.loop-k in (
-      search rules,
-      length-set l.room (a.at + l.k) (l.v % 256) ∙ l.invariant.1,
-      number_more l.room a.at a.width l.k l.v (search rules) ∙ l.invariant.2,
-    )
+    let l = c.loop-b in
+    let n = part-length a.room.now a.at a.width c.requires in
+    number_step l.b-items (le_write a.width a.value) a.width l.b-index l.v (omega arith) (omega arith) l.invariant
 
-pub shape_of-room : goal.shape_of-room
-shape_of-room c = c.loop-k.invariant.1
-
-pub returns : goal.returns
-returns c =
+pub returns-clause-put : goal.returns-clause-put
+returns-clause-put c =
     let a = c.args in
-    let l = c.loop-k in record { put = sym (number_none l.room (a.at + l.k) a.width l.k l.v (search rules)) ∙ l.invariant.2; next = refl }
+    let l = c.loop-b in
+    let n = part-length a.room.now a.at a.width c.requires in
+    let bytes = le_write a.width a.value in
+    let m : length bytes ≡ a.width = le-length a.width a.value in
+    let end = a.at + a.width in
+    let whole : l.b-items ≡ bytes = number_whole l.b-items bytes a.width l.b-index l.v (omega arith) (omega arith) l.invariant in
+    ap (put_mid a.at (end - a.at) a.room.now) whole
+    ∙ put_mid-sets a.room.now bytes a.at (end - a.at) (omega arith) (omega (arith, c.requires))

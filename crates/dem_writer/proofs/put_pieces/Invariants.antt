@@ -1,16 +1,12 @@
 use mathlib.Core.Path.{◌≡◌}
-use Prim.Native.Nat.{◌+◌, ◌-◌, ◌≤◌}
-use lib.ListN.{length}
+use Prim.Native.Nat.{◌+◌, ◌≤◌}
+use lib.ListN.{length, drop}
 use lib.Seq.{sets}
-use Rattle.dem_writer.specs.Bytes.{bytes_of, run}
+use Rattle.dem_writer.specs.Bytes.{bytes_of}
 use Rattle.dem_writer.proofs.put_pieces.Given as goal
 
-abbrev pub invariant-loop-i : goal.invariant-loop-i
-invariant-loop-i l =
-    (l.n ≤ 24) × (l.i ≤ l.n) × (length l.room ≡ length l.initial.room)
-    × (length (bytes_of l.text (run l.p.items 0 (l.n - 0))) ≤ length l.initial.room)
-    × (l.at + length (bytes_of l.text (run l.p.items l.i (l.n - l.i))) ≡ length (bytes_of l.text (run l.p.items 0 (l.n - 0))))
-    × (sets l.room l.at (bytes_of l.text (run l.p.items l.i (l.n - l.i))) ≡ sets l.initial.room 0 (bytes_of l.text (run l.p.items 0 (l.n - 0))))
-
-abbrev pub decreases-loop-i : goal.decreases-loop-i
-decreases-loop-i l = l.n - l.i
+abbrev pub invariant-loop-q : goal.invariant-loop-q
+invariant-loop-q l =
+    (length (bytes_of l.text l.q-items) ≤ length l.room)
+    × (l.at + length (bytes_of l.text (drop l.q-index l.q-items)) ≡ length (bytes_of l.text l.q-items))
+    × (sets l.room l.at (bytes_of l.text (drop l.q-index l.q-items)) ≡ sets l.initial.room 0 (bytes_of l.text l.q-items))

@@ -15,8 +15,8 @@ use Rattle.dem_writer.proofs.temporary.Goals as goal
 pub returns-in-Point : goal.returns-in-Point
 returns-in-Point c x t =
     subst (λ (m : Temporary). allows (layout x) (number Kind.temporary ∷ temporary_values m) ≡ true
-    → bytes_of t (list_of c.before_vector.result) ≡ print (layout x) (number Kind.temporary ∷ temporary_values m)) (sym c.in-Point.is)
-    (λ a. ap (bytes_of t) c.before_vector.ensures ∙ point-print x t c.in-Point.n c.in-Point.v (allows→ (layout x) _ a))
+    → bytes_of t (list_of c.point.result) ≡ print (layout x) (number Kind.temporary ∷ temporary_values m)) (sym c.in-Point.is)
+    (λ a. ap (bytes_of t) c.point.ensures ∙ point-print x t c.in-Point.n c.in-Point.v (allows→ (layout x) _ a))
 
 pub returns-in-Line : goal.returns-in-Line
 returns-in-Line c x t =

@@ -4,4 +4,4 @@ use Rattle.demnorm.proofs.write_blocks.Given as goal
 
 abbrev pub invariant-loop : goal.invariant-loop
 invariant-loop l =
-    (length l.input ≡ length l.fn.input) × (l.start ≤ l.len) × (l.len ≤ length l.input)
+    (length l.input ≡ length l.fn.input) × (l.start ≤ l.filled.len) × (l.filled.len ≤ length l.input)

@@ -1,28 +1,12 @@
--- `report::put_text` meets its contract: what is left of the text, put from the place reached on, makes the room that is asked for.
-use mathlib.Core.Path.{refl, sym, ◌∙◌}
-use Prim.Native.Nat.{◌+◌, ◌-◌}
+-- `report::put_text` meets its contract.
+use mathlib.Core.Path.{ap, ◌∙◌}
 use native.Mathlib.Omega.{arith}
-use borrow.Author.Rules.{rules}
-use lib.ListN.{get_or, length-set}
-use Rattle.format.proofs.ListLaws.{left-start, left_more, left_none}
+use borrow.Rule.Slice.PartMut.{put_mid}
+use Rattle.format.proofs.StoreLaws.{put_mid-sets}
 use Rattle.report.proofs.put_text.Goals as goal
 
-pub loop-k-init : goal.loop-k-init
-loop-k-init c = let a = c.args in (search rules, refl, left-start a.room.now a.text.now a.at)
-
-pub loop-k-preserved : goal.loop-k-preserved
-loop-k-preserved c =
+pub returns-clause-put : goal.returns-clause-put
+returns-clause-put c =
     let a = c.args in
-    let l = c.loop-k in (
-      search rules,
-      length-set l.room (a.at + l.k) (get_or a.text.now l.k 0) ∙ l.invariant.1,
-      left_more l.room a.text.now (a.at + l.k) (a.at + (l.k + 1)) l.k _ (omega arith) (search rules) refl ∙ l.invariant.2,
-    )
-
-pub shape_of-room : goal.shape_of-room
-shape_of-room c = c.loop-k.invariant.1
-
-pub returns : goal.returns
-returns c =
-    let a = c.args in
-    let l = c.loop-k in record { put = sym (left_none l.room a.text.now (a.at + l.k) l.k (search rules)) ∙ l.invariant.2; next = refl }
+    ap (put_mid a.at _ a.room.now) c.copy_from_slice.ensures.after
+    ∙ put_mid-sets a.room.now a.text.now a.at _ (omega arith) c.requires

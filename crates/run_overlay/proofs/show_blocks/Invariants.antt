@@ -3,4 +3,4 @@ use Rattle.std.proofs.Common.{◌≡◌, ◌≤◌, length}
 use Rattle.run_overlay.proofs.show_blocks.Given as goal
 
 abbrev pub invariant-loop : goal.invariant-loop
-invariant-loop l = (length l.input ≡ length l.fn.input) × (l.len ≤ length l.input)
+invariant-loop l = (length l.input ≡ length l.fn.input) × (l.filled.len ≤ length l.input)

@@ -1,7 +1,0 @@
--- `dem_masked::short_behind` meets its contract: the field is sent exactly if the bit is set.
-use Rattle.dem_masked.specs.Slots.{slot_at}
-use Rattle.dem_masked.proofs.short_behind.Goals as goal
-
-pub returns : goal.returns
-unfolding slot_at
-returns c = rw c.has.ensures at c.read_short_if.ensures

@@ -1,9 +1,0 @@
--- Each read that gives bytes moves the place on.
-use Rattle.std.proofs.Common.{length, ◌-◌, ◌≡◌}
-use Rattle.demscene.proofs.input.fill.Given as goal
-
-abbrev pub invariant-loop-done : goal.invariant-loop-done
-invariant-loop-done g l = length l.buf ≡ length l.fn.buf
-
-abbrev pub decreases-loop-done : goal.decreases-loop-done
-decreases-loop-done g l = length l.buf - l.done

@@ -1,10 +1,9 @@
 -- What is told of a run of blocks, and what is written of it.
-use Rattle.std.specs.Prelude.{List, [], ◌++◌, Bool, cond, ℕ, ◌+◌, ◌-◌, length, take, drop, leb, eqb, Option, None, Some}
+use Rattle.std.specs.Prelude.{List, [], ◌++◌, Bool, cond, ℕ, ◌+◌, ◌-◌, length, take, drop, leb, eqb}
 use Rattle.std.proofs.lemmas.List.Edits.{sets}
 use Rattle.format.specs.Bytes.{le_write}
 use Rattle.format.specs.Layout.{Value, print}
-use Rattle.format.specs.Refusals.{number_of}
-use Rattle.format.specs.declared.refusal.Refused.{Refused}
+use Rattle.format.specs.Refusals.{refusal_in, place_in}
 use Rattle.dem.specs.Scene.{Scene}
 use Rattle.dem.specs.Message.{Message, normal as normal_message}
 use Rattle.format.specs.Codec.{Run, WrittenRun, write_most, normal_bytes}
@@ -39,15 +38,6 @@ counted_of given input r blocks messages =
 -- Of a run in front of which stand so many blocks and messages.
 abbrev pub told_of : Scene → ℕ → ℕ → ℕ → Run Scene Block → Told
 told_of given input blocks messages r = counted_of given input r (blocks + length r.items) (messages + count_messages r.items)
-
--- An answer's refusal, 0 for none, and its place, where blocks were read up to a place.
-abbrev pub refusal_in : Option Refused → ℕ
-refusal_in None = 0
-refusal_in (Some r) = number_of r.refusal
-
-abbrev pub place_in : ℕ → Option Refused → ℕ
-place_in next None = next
-place_in next (Some r) = r.place
 
 abbrev pub answered : BlocksAt → Told
 answered r =

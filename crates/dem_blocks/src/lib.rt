@@ -11,7 +11,7 @@ ghost use Rattle.dem.specs.Recording.{angle_layout, blocks as recording_blocks};
 ghost use Rattle.dem.specs.Scene.{Context, context_of, count_marks, in_range};
 ghost use Rattle.format.specs.Codec.{run_most};
 ghost use Rattle.format.specs.declared.refusal.Refusal.TheVariants.{ShortRoom};
-ghost use Rattle.format.specs.Refusals.{number_of};
+ghost use Rattle.format.specs.Refusals.{number_of, refusal_in, place_in};
 ghost use Rattle.wire.specs.Reads.{read_of};
 ghost use Rattle.dem_types.specs.Values.{sound_values, update_values};
 ghost use Rattle.dem_parts.specs.Kinds.{kind_in};
@@ -19,7 +19,7 @@ ghost use Rattle.dem_scene.specs.Views.{scene_with, scene_of, baseline_numbers, 
 ghost use Rattle.dem_direct.specs.Spread.{client_at};
 ghost use Rattle.dem_normal.specs.Put.{Behind};
 ghost use Rattle.dem_blocks.specs.Marks.{marked};
-ghost use Rattle.dem_blocks.specs.Runs.{refused_in, loaded_until, told_of, refusal_in, place_in, answered, stored, put, so_far, block_bytes, wrote_of, run_of, wrote};
+ghost use Rattle.dem_blocks.specs.Runs.{refused_in, loaded_until, told_of, answered, stored, put, so_far, block_bytes, wrote_of, run_of, wrote};
 
 use dem::limit::{BLOCK_LIMIT, ENTITY_COUNT, HEAD_SIZE};
 use dem::{kind, update};

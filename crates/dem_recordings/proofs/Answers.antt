@@ -7,13 +7,12 @@ use borrow.Author.Tests.{ne_eqb}
 use lib.Dec.{eqb}
 use lib.ListN.{get_or}
 use Rattle.std.specs.Prelude.{Option, None, Some, Result}
-use Rattle.format.specs.Refusals.{number_of}
+use Rattle.format.specs.Refusals.{number_of, refusal_in, place_in}
 use Rattle.format.specs.declared.refusal.Refused.{Refused}
 use Rattle.format.specs.Layout.{number, as_number}
 use Rattle.format.specs.Answer.{Answer, Progress as Passed, Rewriting as Rewritten, Normalised}
 use Rattle.format.proofs.RefusalsBack.{refused_from, refused_back, number_some}
 use Rattle.dem.specs.Answer.{Track as TrackTold, Outline as OutlineTold, Summary as SummaryTold}
-use Rattle.dem_blocks.specs.Runs.{refusal_in, place_in}
 use Rattle.dem_messages.specs.declared.Normal.{Normal}
 use Rattle.dem_messages.specs.Replies.{normalised_of}
 use Rattle.dem_messages.proofs.Answers.{answer_from, answer_back, item_from, item_back, normal_of}

@@ -14,7 +14,7 @@ use Rattle.dem.specs.Scene.{Scene, in_range}
 use Rattle.format.specs.Codec.{after, stopped, preceded, run_most, WrittenRun, silent, roomless, write_most, normal_bytes}
 use Rattle.std.specs.Prelude.{None, Some}
 use Rattle.format.specs.Refusal.{code, short_room}
-use Rattle.format.specs.Refusals.{number_of}
+use Rattle.format.specs.Refusals.{number_of, refusal_in, place_in as place_by}
 use Rattle.format.specs.declared.refusal.Refused.{Refused}
 use Rattle.format.proofs.RefusalsBack.{number_some}
 use Rattle.format.specs.Answer.{place_in, Answer, guarded, Item, Reply, Written, Rewriting, Normalised, result, at_end, refusal, reply, written, item_at, normal_of}
@@ -30,7 +30,7 @@ use Rattle.format.proofs.ListLaws.{sets_front}
 use Rattle.format.proofs.AnswerLaws.{item_end, item_refused_lem}
 use Rattle.dem.proofs.RewritingLaws.{written_blocks, normal-blocks-at}
 use Rattle.dem_scene.specs.Views.{scene_of}
-use Rattle.dem_blocks.specs.Runs.{Told, refused_in, told_of, refusal_in, place_in as place_by, answered, Wrote, stored, put, wrote_of, wrote}
+use Rattle.dem_blocks.specs.Runs.{Told, refused_in, told_of, answered, Wrote, stored, put, wrote_of, wrote}
 use Rattle.dem_blocks.specs.declared.BlocksAt.{BlocksAt}
 use Rattle.dem_blocks.specs.declared.WrittenAt.{WrittenAt}
 use Rattle.dem_messages.proofs.Asked.{asked-refused}

@@ -14,7 +14,7 @@ use mir.Syntax.{w16}
 use mir.Val.{to_z, of_z}
 use Rattle.std.specs.Prelude.{None, Some, Err}
 use Rattle.format.specs.Refusal.{code, short_room}
-use Rattle.format.specs.Refusals.{number_of}
+use Rattle.format.specs.Refusals.{number_of, refusal_in, place_in as place_by}
 use Rattle.format.specs.declared.refusal.Refused.{Refused}
 use Rattle.format.proofs.RefusalsBack.{number_some}
 use Rattle.format.specs.Bytes.{Bytes, found, refused, map_result}
@@ -36,7 +36,7 @@ use Rattle.dem.proofs.RewritingLaws.{written_blocks, whole_written, whole-writte
 use Rattle.dem.proofs.RewritingLaws.{whole-normal_by-track, track-normal-at, track-normal-refused}
 use Rattle.dem_framing.proofs.NormalLaws.{number_range}
 use Rattle.dem_scene.specs.Views.{scene_of}
-use Rattle.dem_blocks.specs.Runs.{refused_in, told_of, told_with, refusal_in, place_in as place_by, answered, Wrote, wrote, wrote_of, stored, put, run_of}
+use Rattle.dem_blocks.specs.Runs.{refused_in, told_of, told_with, answered, Wrote, wrote, wrote_of, stored, put, run_of}
 use Rattle.dem_blocks.specs.declared.BlocksAt.{BlocksAt}
 use Rattle.dem_blocks.specs.declared.WrittenAt.{WrittenAt}
 use Rattle.dem_recordings.specs.Replies.{track_written_of}

@@ -13,7 +13,7 @@ use lib.ListN.{length, take, drop, get_or, length-drop}
 use lib.Seq.{drop-cons}
 use Rattle.std.specs.Prelude as Rust
 use Rattle.std.specs.Prelude.{Option, None, Some, Ok, Err}
-use Rattle.format.specs.Refusals.{number_of}
+use Rattle.format.specs.Refusals.{number_of, refusal_in, place_in as place_by}
 use Rattle.format.specs.declared.refusal.Refused.{Refused}
 use Rattle.format.proofs.RefusalsBack.{number_some}
 use Rattle.dem_messages.proofs.Asked.{asked-refused}
@@ -43,7 +43,7 @@ use Rattle.dem_framing.specs.Heads.{head_in, head_of}
 use Rattle.dem_framing.specs.declared.Head.{Head}
 use Rattle.dem_framing.proofs.HeadLaws.{block_head, block-ended}
 use Rattle.dem_scene.specs.Views.{scene_of}
-use Rattle.dem_blocks.specs.Runs.{Told, refused_in, told_of, refusal_in, place_in as place_by, answered}
+use Rattle.dem_blocks.specs.Runs.{Told, refused_in, told_of, answered}
 use Rattle.dem_blocks.specs.declared.BlocksAt.{BlocksAt}
 use Rattle.dem.proofs.PieceLaws.{summary, whole_run, whole_by-run, whole_by-track}
 use Rattle.dem.proofs.RefusalLaws.{listed}

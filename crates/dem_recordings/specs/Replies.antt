@@ -1,11 +1,11 @@
 -- What the entries over track lines, blocks and recordings answer, in the definitions' terms.
 use Rattle.std.specs.Prelude.{List, [], ◌∷◌, ℕ, Option, Result}
+use Rattle.format.specs.Refusals.{refusal_in, place_in}
 use Rattle.format.specs.Layout.{number}
 use Rattle.format.specs.declared.refusal.Refused.{Refused}
 use Rattle.dem.specs.Scene.{Scene as Described}
 use Rattle.format.specs.Answer.{Answer, Reply as Told, reply, Written, written, Normalised, Progress as Passed, Rewriting as Rewritten}
 use Rattle.dem.specs.Answer.{Track as TrackTold, Outline as OutlineTold, Summary as SummaryTold}
-use Rattle.dem_blocks.specs.Runs.{refusal_in, place_in}
 use Rattle.dem_messages.specs.declared.Normal.{Normal}
 use Rattle.dem_messages.specs.declared.Reply.{Reply}
 use Rattle.dem_messages.specs.Replies.{answer_by, item_by, reply_by, written_by, normalised_of}

@@ -2,13 +2,14 @@
 #![tactic(auto)]
 
 ghost use Rattle.std.specs.Prelude.{◌≡◌, ◌≢◌, true, false, ◌≤◌, length, drop, Some};
+ghost use Rattle.format.specs.Refusals.{refusal_in, place_in};
 ghost use Rattle.format.specs.Refusal.{code, short_room};
 ghost use Rattle.dem.specs.Scene.{fresh};
 ghost use Rattle.dem.specs.Recording.{blocks as recording_blocks, normal_block};
 ghost use Rattle.format.specs.Answer.{written, normal_at};
 ghost use Rattle.dem.specs.Answer.{track_at, outline_at, blocks_at, whole, normal_blocks_at, track_normal, whole_normal};
 ghost use Rattle.dem_scene.specs.Views.{scene_of};
-ghost use Rattle.dem_blocks.specs.Runs.{refusal_in, place_in, stored, wrote_of, run_of, wrote};
+ghost use Rattle.dem_blocks.specs.Runs.{stored, wrote_of, run_of, wrote};
 ghost use Rattle.dem_messages.specs.Replies.{written_of, normal_reply_of};
 ghost use Rattle.dem_recordings.specs.Replies.{track_answer_of, block_reply_of, blocks_reply_of, recording_reply_of, summary_of, rewrite_reply_of, track_written_of};
 ghost use Rattle.dem_recordings.specs.Steps.{from_start};

@@ -8,10 +8,9 @@ use borrow.Author.Tests.{ne_eqb}
 use lib.Dec.{eqb}
 use Rattle.std.specs.Prelude.{Option, None, Some}
 use Rattle.format.specs.declared.refusal.Refused.{Refused}
-use Rattle.format.specs.Refusals.{number_of}
+use Rattle.format.specs.Refusals.{number_of, refusal_in, place_in}
 use Rattle.format.proofs.RefusalsBack.{refused_from, refused_back, number_some}
 use Rattle.wire.proofs.FieldLaws.{Held}
-use Rattle.dem_blocks.specs.Runs.{refusal_in, place_in}
 use Rattle.dem_scene.proofs.Back.{scene_fixed}
 use Rattle.dem_stream.specs.Pieces.{place_behind}
 use Rattle.dem_stream.specs.Views.{piece_view, line_view}

@@ -1,7 +1,7 @@
 -- What is told of a piece and of a track line, in the definitions' terms, with what the room holds afterwards.
+use Rattle.format.specs.Refusals.{refusal_in, place_in}
 use Rattle.std.specs.Prelude.{List, ℕ}
 use Rattle.dem.specs.Scene.{Scene as Described}
-use Rattle.dem_blocks.specs.Runs.{refusal_in, place_in}
 use Rattle.dem_scene.specs.Views.{scene_of}
 use Rattle.dem_stream.specs.Pieces.{place_behind, Piece as Part}
 use Rattle.dem_stream.specs.declared.Piece.{Piece}

@@ -3,9 +3,8 @@
 
 ghost use Rattle.std.specs.Prelude.{◌≡◌, ℕ, ◌≤◌, length};
 ghost use Rattle.std.proofs.lemmas.List.Edits.{sets};
-ghost use Rattle.dem_blocks.specs.Runs.{refusal_in, place_in};
 ghost use Rattle.dem_scene.specs.Views.{scene_of};
-ghost use Rattle.format.specs.Refusals.{number_of};
+ghost use Rattle.format.specs.Refusals.{number_of, refusal_in, place_in};
 ghost use Rattle.dem_stream.specs.Pieces.{place_behind, standing, refusal_place, piece_at, first_line, between};
 ghost use Rattle.dem_stream.specs.Views.{piece_view, line_view};
 

@@ -1,7 +1,8 @@
 -- The refusals that code answers with, as those of document 01.
-use Rattle.std.specs.Prelude.{ℕ}
+use Rattle.std.specs.Prelude.{ℕ, Option, None, Some}
 use Rattle.format.specs.Refusal as Document
 use Rattle.format.specs.declared.refusal.Refusal.{Refusal}
+use Rattle.format.specs.declared.refusal.Refused.{Refused}
 use Rattle.format.specs.declared.refusal.Refusal.TheVariants.{WrongTrack, CutBlock, LongBlock, WrongAngle, CutMessage, UnknownMessage, WrongString, ReservedBit, WrongNumber, WrongTime, AfterDisconnect, ShortRoom, Unreadable, WrongScene}
 
 abbrev pub refusal_of : Refusal → Document.Refusal
@@ -22,3 +23,12 @@ refusal_of WrongScene = Document.wrong_scene
 
 abbrev pub number_of : Refusal → ℕ
 number_of r = Document.code (refusal_of r)
+
+-- The refusal met behind what was read up to a place, 0 for none, and its place, which is then that one.
+abbrev pub refusal_in : Option Refused → ℕ
+refusal_in None = 0
+refusal_in (Some r) = number_of r.refusal
+
+abbrev pub place_in : ℕ → Option Refused → ℕ
+place_in next None = next
+place_in next (Some r) = r.place

@@ -16,7 +16,7 @@ use Rattle.format.specs.Codec.{read_all}
 use Rattle.std.specs.Prelude.{Option}
 use Rattle.format.specs.Bytes.{refused}
 use Rattle.format.specs.Layout.{parse}
-use Rattle.format.specs.Refusals.{number_of}
+use Rattle.format.specs.Refusals.{number_of, refusal_in, place_in}
 use Rattle.format.specs.declared.refusal.Refused.{Refused}
 use Rattle.dem.specs.Message.{layout_in}
 use Rattle.dem_framing.proofs.HeadLaws.{block-ended}
@@ -24,7 +24,7 @@ use Rattle.dem_scene.specs.Views.{scene_with, scene_of, baseline_numbers, record
 use Rattle.dem_direct.specs.Heads.{HeadLoaded, FieldsLoaded}
 use Rattle.dem_direct.specs.declared.LoadedHead.{LoadedHead}
 use Rattle.dem_direct.specs.declared.RecordAt.{RecordAt}
-use Rattle.dem_blocks.specs.Runs.{refused_in, refusal_in, place_in, Wrote, stored, wrote_of, run_of}
+use Rattle.dem_blocks.specs.Runs.{refused_in, Wrote, stored, wrote_of, run_of}
 use Rattle.dem_blocks.specs.Marks.{marked}
 use Rattle.dem_blocks.proofs.Marks.{within_more, within_bits, marked_bits}
 use Rattle.dem_blocks.proofs.SoFar.{far_begins}

@@ -21,16 +21,16 @@ module _ (s : List ℕ) (next : ℕ) (x : Result (List Value)) (vs : List Value)
   tested : (b : Bool) → b ≡ true → found vs (drop next s) ≡ x → found (cond b vs []) (drop next s) ≡ x
   tested b h read = ap (λ (b : Bool). found (cond b vs []) (drop next s)) h ∙ read
 
-  pub string-last : (start : ℕ) (t : Text) → Spans s start 1 (t, next) → found vs (drop next s) ≡ x
+  pub string_last : (start : ℕ) (t : Text) → Spans s start 1 (t, next) → found vs (drop next s) ≡ x
       → found (cond (ends_at (place_in s (drop next s)) t) vs []) (drop next s) ≡ x
-  string-last start t h =
+  string_last start t h =
       tested _ (eq-eqb (t.start + t.len + 1) (place_in s (drop next s)) (omega (arith, h.1, place_drop s next h.2)))
 
   -- Behind the map's name, which is read up to a place.
-  pub names-last : (start behind : ℕ) (map names : Text) → Spans s start 1 (map, behind) → Spans s behind 0 (names, next)
+  pub names_last : (start behind : ℕ) (map names : Text) → Spans s start 1 (map, behind) → Spans s behind 0 (names, next)
       → found vs (drop next s) ≡ x
       → found (cond (ends_at names.start map && eqb (names.start + names.len) (place_in s (drop next s))) vs []) (drop next s) ≡ x
-  names-last start behind map names m n =
+  names_last start behind map names m n =
       tested _ (ap₂ ◌&&◌
       (eq-eqb (map.start + map.len + 1) names.start (omega (arith, n.0, m.1)))
       (eq-eqb (names.start + names.len) (place_in s (drop next s)) (omega (arith, n.1, place_drop s next n.2))))

@@ -13,7 +13,6 @@ use Rattle.dem.specs.Recording.{messages}
 use Rattle.dem.specs.Answer.{message_at}
 use Rattle.dem_scene.specs.Views.{scene_of}
 use Rattle.dem_messages.specs.declared.Found.{Found}
-use Rattle.dem_messages.specs.declared.Reply.{Reply}
 use Rattle.dem_walker.specs.declared.Walked.{Walked}
 
 -- ---- one step
@@ -62,9 +61,9 @@ walk_from given block s n (refused r left) = walk given 0 r (place_in block left
 unfoldable pub walk_all : Scene → List ℕ → Walk
 walk_all s block = cond (not (in_range s)) (walk s 0 (code wrong_scene) 0) (walk_from s block s 0 (read_all messages s block))
 
-abbrev pub walked_in : Scene → Rust.Result Walked Refused → Walk
-walked_in s (Ok w) = walk s w.messages 0 w.place
-walked_in s (Err r) = walk s 0 (number_of r.refusal) r.place
+abbrev pub walked_in : Scene → ℕ → Rust.Result ℕ Refused → Walk
+walked_in s n (Ok place) = walk s n 0 place
+walked_in s n (Err r) = walk s n (number_of r.refusal) r.place
 
-abbrev pub walked_of : Reply Walked → Walk
-walked_of r = walked_in (scene_of r.scene) r.answer
+abbrev pub walked_of : Walked → Walk
+walked_of w = walked_in (scene_of w.scene) w.messages w.answer

@@ -8,6 +8,7 @@ ghost use Rattle.dem_walker.specs.Walks.{place_after, stepped, step_at, walked_o
 
 use dem_messages::{Found, Reply};
 use dem_scene::Scene;
+use format::refusal::Refused;
 
 #[derive(Clone, Copy)]
 pub struct Walker<'a> {
@@ -41,15 +42,17 @@ pub fn next<'s, 'a>(w: &'s mut Walker<'a>, scene: Scene) -> Reply<Option<Found>>
     reply
 }
 
-// How many messages a block has, and the place behind them.
+// The scene after a block's messages, how many they are, and the place behind them; or a refusal, with the scene given and no message counted.
+// The number stands beside the answer, so that none being counted is promised of a refusal too.
 #[derive(Clone, Copy)]
 pub struct Walked {
+    pub scene: Scene,
     pub messages: usize,
-    pub place: usize,
+    pub answer: Result<usize, Refused>,
 }
 
-// All messages of a block, in a scene: the scene after them. With a refusal, the scene given.
-pub fn read_all(block: &[u8], scene: Scene) -> Reply<Walked>
+// All messages of a block, in a scene.
+pub fn read_all(block: &[u8], scene: Scene) -> Walked
     ensures { walked_of result ≡ walk_all (scene_of scene) block.now }
 {
     let mut current = scene;
@@ -65,19 +68,17 @@ pub fn read_all(block: &[u8], scene: Scene) -> Reply<Walked>
                 messages += 1;
             }
             Ok(None) => {
-                let walked = Walked {
-                    messages,
-                    place: at,
-                };
-                return Reply {
-                    answer: Ok(walked),
+                return Walked {
                     scene: current,
+                    messages,
+                    answer: Ok(at),
                 };
             }
             Err(r) => {
-                return Reply {
-                    answer: Err(r),
+                return Walked {
                     scene,
+                    messages: 0,
+                    answer: Err(r),
                 };
             }
         }

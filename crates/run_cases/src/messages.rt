@@ -12,11 +12,14 @@ use wire::Text;
 // The messages that were counted, a refusal's number, 0 for none, and its place or that of the end.
 fn all(rt: &impl Print, block: &[u8], scene: Scene) -> io::Result<Scene> {
     let all = dem_walker::read_all(block, scene);
-    let (messages, refusal, place) = match all.answer {
-        Ok(walked) => (walked.messages, 0, walked.place),
-        Err(r) => (0, u8::from(r.refusal), r.place),
+    let (refusal, place) = match all.answer {
+        Ok(place) => (0, place),
+        Err(r) => (u8::from(r.refusal), r.place),
     };
-    print!(rt; "  all messages {messages} refusal {refusal} place {place}\n")?;
+    print!(rt;
+        "  all messages {} refusal {refusal} place {place}\n",
+        all.messages
+    )?;
     show(rt, &all.scene)?;
     Ok(all.scene)
 }

@@ -1,4 +1,6 @@
 // Text on its way to standard output through a lent array: a full array is written out and begun again.
+ghost use Rattle.std.specs.Prelude.{◌≡◌};
+
 use std::{fmt, io};
 
 #[derive(Drop)]
@@ -9,12 +11,16 @@ pub struct Page<'r, 'a, P> {
 }
 
 impl<'r, 'a, P: Print> Page<'r, 'a, P> {
-    pub fn new(rt: &'r P, room: &'a mut [u8]) -> Self {
+    pub fn new(rt: &'r P, room: &'a mut [u8]) -> Self
+        ensures { result.len ≡ 0 }
+    {
         Page { rt, room, len: 0 }
     }
 
     // Writes out what is in the array.
-    pub fn finish(&mut self) -> io::Result<()> {
+    pub fn finish(&mut self) -> io::Result<()>
+        ensures { self.new.len ≡ 0 }
+    {
         let rt = self.rt;
         let len = self.len;
         self.len = 0;

@@ -5,7 +5,7 @@ use dem_types::Entity;
 use memchr::memchr;
 
 // The scene, how many bytes are asked of, and from which place on.
-#[derive(Drop)]
+#[derive(Clone, Copy)]
 pub struct Given {
     pub scene: Scene,
     pub count: usize,
